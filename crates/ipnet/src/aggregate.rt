@@ -38,7 +38,15 @@ impl<N: Number> Net<N> {
     /// Returns the fewest networks that cover the same addresses, in ascending order and without host bits. Takes time n log n.
     ///
     /// # Errors
-    /// `AllocError` if an allocation fails.
+    /// - `AllocError`: if an allocation fails.
+    ///
+    /// # Examples
+    /// For `halves`, 10.0.0.5/25 and 10.0.0.128/25; `v4` parses a text:
+    ///
+    /// ```rust
+    /// let blocks = Ipv4Net::aggregate(alloc, halves).expect(rt, "memory");
+    /// assert_eq!(rt; blocks.as_slice(), [v4(rt, "10.0.0.0/24")].as_slice());
+    /// ```
     pub fn aggregate(alloc: Global, networks: &Vec<Net<N>>) -> Result<Vec<Net<N>>, AllocError>
         ensures { IfOk result (λ v. AreAggregated N.family networks.now.items v.items) }
     {
@@ -50,7 +58,18 @@ impl IpNet {
     /// Returns the fewest networks that cover the same addresses, in ascending order, IPv4 first, without host bits. Takes time n log n.
     ///
     /// # Errors
-    /// `AllocError` if an allocation fails.
+    /// - `AllocError`: if an allocation fails.
+    ///
+    /// # Examples
+    /// For `networks`, `::/1`, `8000::/1` and 10.0.0.1/8; `any` parses a text:
+    ///
+    /// ```rust
+    /// let blocks = IpNet::aggregate(alloc, networks).expect(rt, "memory");
+    /// assert_eq!(rt;
+    ///     blocks.as_slice(),
+    ///     [any(rt, "10.0.0.0/8"), any(rt, "::/0")].as_slice()
+    /// );
+    /// ```
     pub fn aggregate(alloc: Global, networks: &Vec<IpNet>) -> Result<Vec<IpNet>, AllocError>
         ensures blocks { IfOk result (λ v. IsAggregated (map block networks.now.items) (map block v.items)) }
         ensures truncated { IfOk result (λ v. All (λ n. IsTruncated (family n) (parts n)) v.items) }

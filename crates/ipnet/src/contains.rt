@@ -15,6 +15,14 @@ pub trait Contains<T> {
     ghost contained: { Self → T → Type 0 };
 
     /// Returns whether each address of `other` is an address of `self`.
+    ///
+    /// # Examples
+    /// For `narrow`, 10.1.0.0/16; `v4` parses a text:
+    ///
+    /// ```rust
+    /// let all = v4(&rt, "0.0.0.0/0");
+    /// is_equal(&rt, Contains::contains(&all, &narrow), true);
+    /// ```
     fn contains(&self, other: T) -> bool
         ensures { IsTrue result ↔ contained self.now other };
 }
@@ -80,6 +88,17 @@ impl Contains<&IpAddr> for IpNet {
 
 impl<N: Number> Net<N> {
     /// Returns whether the network contains `other`, a network or an address.
+    ///
+    /// # Examples
+    /// `v6` parses a text:
+    ///
+    /// ```rust
+    /// let wide = v6(&rt, "2001:db8::/32");
+    /// let inside = v6(&rt, "2001:db8:1::/48");
+    /// is_equal(&rt, wide.contains(&inside), true);
+    /// is_equal(&rt, wide.contains(&v6(&rt, "2001:db9::/48")), false);
+    /// is_equal(&rt, wide.contains(&inside.addr()), true);
+    /// ```
     pub fn contains<T>(&self, other: T) -> bool
     where
         Net<N>: Contains<T>,
@@ -91,6 +110,16 @@ impl<N: Number> Net<N> {
 
 impl IpNet {
     /// Returns whether the network contains `other`, a network or an address; false if the families differ.
+    ///
+    /// # Examples
+    /// For `wide`, 2001:db8::/32; `any` parses a text:
+    ///
+    /// ```rust
+    /// let inside = any(&rt, "2001:db8:1::/48");
+    /// is_equal(&rt, wide.contains(&inside), true);
+    /// is_equal(&rt, wide.contains(&inside.addr()), true);
+    /// is_equal(&rt, wide.contains(&any(&rt, "0.0.0.0/0")), false);
+    /// ```
     pub fn contains<T>(&self, other: T) -> bool
     where
         IpNet: Contains<T>,

@@ -11,6 +11,14 @@ use ipnet_addr::mask::{PrefixLenError, ip_mask_to_prefix};
 use std::net::{IpAddr, Ipv4Addr, Ipv6Addr};
 
 /// A network of either family. IPv4 networks are ordered before IPv6 networks.
+///
+/// # Examples
+/// `any` parses a text:
+///
+/// ```rust
+/// let greatest = any(&rt, "255.255.255.255/32");
+/// is_equal(&rt, greatest < any(&rt, "::/0"), true);
+/// ```
 #[derive(Clone, Copy, PartialEq, Eq, PartialOrd, Ord, Hash)]
 pub enum IpNet {
     /// An IPv4 network.
@@ -23,7 +31,13 @@ impl IpNet {
     /// Makes the network of this address and prefix length; host bits are kept.
     ///
     /// # Errors
-    /// `PrefixLenError` exactly if `prefix_len` is above the width of the address, 32 or 128.
+    /// - `PrefixLenError`: exactly if `prefix_len` is above the width of the address, 32 or 128.
+    ///
+    /// # Examples
+    /// ```rust
+    /// let host = IpAddr::V4(Ipv4Addr::LOCALHOST);
+    /// is_equal(&rt, IpNet::new(host, 64).is_err(), true);
+    /// ```
     pub fn new(addr: IpAddr, prefix_len: u8) -> Result<IpNet, PrefixLenError>
         ensures variant { IsOk result ↔ (prefix_len ≤ width (address_of addr).family) }
         ensures parts { IfOk result (λ n. n ≡ net_in (address_of addr).family (record { number = (address_of addr).number; len = prefix_len })) }
@@ -35,6 +49,13 @@ impl IpNet {
     }
 
     /// Makes the network of this address and prefix length, which must be at most the width of the address; host bits are kept.
+    ///
+    /// # Examples
+    /// For each network `net`:
+    ///
+    /// ```rust
+    /// is_equal(rt, IpNet::new_assert(net.addr(), net.prefix_len()), net);
+    /// ```
     pub fn new_assert(addr: IpAddr, prefix_len: u8) -> IpNet
         requires { prefix_len ≤ width (address_of addr).family }
         ensures { result ≡ net_in (address_of addr).family (record { number = (address_of addr).number; len = prefix_len }) }
@@ -49,7 +70,15 @@ impl IpNet {
     /// of the other family, as in the Rust crate ipnet 2.12.2.
     ///
     /// # Errors
-    /// `PrefixLenError` exactly if the mask isn't ones followed by zeros, or has more ones than the address has bits.
+    /// - `PrefixLenError`: exactly if the mask isn't ones followed by zeros, or has more ones than the address has bits.
+    ///
+    /// # Examples
+    /// For `net`, 2001:db8::1/32:
+    ///
+    /// ```rust
+    /// let masked = IpNet::with_netmask(net.addr(), net.netmask());
+    /// is_equal(&rt, masked.expect(&rt, "a network"), net);
+    /// ```
     pub fn with_netmask(addr: IpAddr, netmask: IpAddr) -> Result<IpNet, PrefixLenError>
         ensures { MatchResult result
             (λ n. (family n ≡ (address_of addr).family) × ((parts n).number ≡ (address_of addr).number) × IsMask (address_of netmask) (parts n).len)
@@ -62,6 +91,14 @@ impl IpNet {
     }
 
     /// Returns the address of the network, with its host bits.
+    ///
+    /// # Examples
+    /// For each network `net`:
+    ///
+    /// ```rust
+    /// let made = IpNet::new(net.addr(), net.prefix_len());
+    /// is_equal(rt, made.expect(rt, "a network"), net);
+    /// ```
     pub fn addr(&self) -> IpAddr
         ensures family { (address_of result).family ≡ family self.now }
         ensures number { (address_of result).number ≡ (parts self.now).number }
@@ -84,6 +121,13 @@ impl IpNet {
     }
 
     /// Returns the greatest prefix length of the family, 32 or 128.
+    ///
+    /// # Examples
+    /// For `net`, 2001:db8::1/32:
+    ///
+    /// ```rust
+    /// is_equal(&rt, net.max_prefix_len(), 128);
+    /// ```
     pub fn max_prefix_len(&self) -> u8
         ensures { result ≡ width (family self.now) }
     {
@@ -138,6 +182,13 @@ impl IpNet {
     }
 
     /// Returns the network without its host bits; it has the same addresses.
+    ///
+    /// # Examples
+    /// For `half`, 8000::/1; `any` parses a text:
+    ///
+    /// ```rust
+    /// is_equal(&rt, any(&rt, "8000::1/1").trunc(), half);
+    /// ```
     pub fn trunc(&self) -> IpNet
         ensures value { result ≡ net_in (family self.now) (net_of (block self.now)) }
         ensures network { IsNetwork (family self.now) (parts self.now) }
@@ -149,6 +200,14 @@ impl IpNet {
     }
 
     /// Returns the containing network that is one bit shorter, without host bits, or `None` exactly if the length is 0.
+    ///
+    /// # Examples
+    /// `any` parses a text:
+    ///
+    /// ```rust
+    /// let half = any(&rt, "8000::/1");
+    /// is_equal(&rt, half.supernet(), Some(any(&rt, "::/0")));
+    /// ```
     pub fn supernet(&self) -> Option<IpNet>
         ensures { MatchOption result ((parts self.now).len ≡ 0) (λ n. (0 < (parts self.now).len) × (n ≡ net_in (family self.now) (net_of (parent (block self.now))))) }
     {
@@ -159,6 +218,14 @@ impl IpNet {
     }
 
     /// Returns whether the networks have the same family, the same length above 0, and the same supernet.
+    ///
+    /// # Examples
+    /// For `half`, 8000::/1; `any` parses a text:
+    ///
+    /// ```rust
+    /// is_equal(&rt, half.is_sibling(&any(&rt, "::/1")), true);
+    /// is_equal(&rt, half.is_sibling(&any(&rt, "0.0.0.0/1")), false);
+    /// ```
     pub fn is_sibling(&self, other: &IpNet) -> bool
         ensures { IsTrue result ↔ AreSiblings (block self.now) (block other.now) }
     {
@@ -172,6 +239,11 @@ impl IpNet {
 }
 
 /// The default is all of IPv4, `0.0.0.0/0`.
+///
+/// # Examples
+/// ```rust
+/// is_equal(&rt, IpNet::default(), IpNet::from(Ipv4Net::default()));
+/// ```
 impl Default for IpNet {
     ghost use Rattle.std.specs.Prelude.{◌≡◌};
     ghost use Rattle.ipnet_addr.specs.Addresses.{Ipv4};
@@ -214,6 +286,15 @@ impl From<Ipv4Net> for IpNet {
 }
 
 /// The same network, as one of either family.
+///
+/// # Examples
+/// `v6` and `any` parse texts:
+///
+/// ```rust
+/// let wide = IpNet::from(v6(&rt, "2001:db8::/32"));
+/// let inside = any(&rt, "2001:db8:1::/48");
+/// is_equal(&rt, wide.contains(&inside), true);
+/// ```
 impl From<Ipv6Net> for IpNet {
     ghost use Rattle.std.specs.Prelude.{◌≡◌};
     ghost use Rattle.ipnet_addr.specs.Addresses.{Ipv6};

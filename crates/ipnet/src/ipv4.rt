@@ -23,6 +23,13 @@ use ipnet_addr::ranges::Ipv4AddrRange;
 use std::net::Ipv4Addr;
 
 /// The network of this address alone.
+///
+/// # Examples
+/// For each address `addr`:
+///
+/// ```rust
+/// is_equal(&rt, Ipv4Net::from(addr), Ipv4Net::new_assert(addr, 32));
+/// ```
 impl From<Ipv4Addr> for Ipv4Net {
     ghost from_gives = { λ a n. n ≡ record { number = ipv4_bits a; len = 32 } };
 
@@ -54,6 +61,16 @@ impl Ipv4Net {
     }
 
     /// Returns the addresses of the hosts: all but `network` and `broadcast` if the length is below 31, and else all.
+    ///
+    /// # Examples
+    /// `v4` parses a text:
+    ///
+    /// ```rust
+    /// let mut hosts = v4(&rt, "10.0.0.0/30").hosts();
+    /// assert_eq!(rt; hosts.next(), Some(Ipv4Addr::new(10, 0, 0, 1)));
+    /// assert_eq!(rt; hosts.next(), Some(Ipv4Addr::new(10, 0, 0, 2)));
+    /// assert_eq!(rt; hosts.next(), None);
+    /// ```
     pub fn hosts(&self) -> Ipv4AddrRange
         ensures { result ≡ host_ends (block_of Ipv4 self.now) }
     {
@@ -67,6 +84,14 @@ impl Ipv4Net {
     }
 
     /// Returns the four octets of the address, with its host bits, and then the length.
+    ///
+    /// # Examples
+    /// `v4` parses a text:
+    ///
+    /// ```rust
+    /// let net = v4(&rt, "10.1.2.3/16");
+    /// is_equal(&rt, net.to_bytes(), [0x0a, 1, 2, 3, 0x10]);
+    /// ```
     pub fn to_bytes(&self) -> [u8; 5]
         ensures bytes { result ≡ ipv4_net_bytes self.now }
         ensures holds { HoldsIpv4 result self.now }
@@ -78,7 +103,14 @@ impl Ipv4Net {
     /// Reads the network that `to_bytes` made these bytes of. Does not allocate.
     ///
     /// # Errors
-    /// `AddrParseError` exactly if no network has these bytes: they aren't five bytes, or the length is above 32.
+    /// - `AddrParseError`: exactly if there aren't five bytes, or the last one, the length, is above 32.
+    ///
+    /// # Examples
+    /// For each network `net`:
+    ///
+    /// ```rust
+    /// is_equal(&rt, &Ipv4Net::from_bytes(&net.to_bytes()), &Ok(net));
+    /// ```
     pub fn from_bytes(bytes: &[u8]) -> Result<Ipv4Net, AddrParseError>
         ensures { Parses HoldsIpv4 bytes.now result }
     {

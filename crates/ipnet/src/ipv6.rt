@@ -54,6 +54,14 @@ impl Ipv6Net {
     }
 
     /// Returns the addresses of the hosts: all addresses of the network.
+    ///
+    /// # Examples
+    /// `v6` parses a text; `low()` is the address 0, and `high()` the greatest address:
+    ///
+    /// ```rust
+    /// let all = v6(&rt, "::/0").hosts();
+    /// is_equal(&rt, all, Ipv6AddrRange::new(low(), high()));
+    /// ```
     pub fn hosts(&self) -> Ipv6AddrRange
         ensures { result ≡ host_ends (block_of Ipv6 self.now) }
     {
@@ -61,6 +69,15 @@ impl Ipv6Net {
     }
 
     /// Returns the sixteen octets of the address, with its host bits, and then the length.
+    ///
+    /// # Examples
+    /// `v6` parses a text:
+    ///
+    /// ```rust
+    /// let net = v6(&rt, "2001:db8::1/64");
+    /// let bytes = [0x20, 1, 0x0d, 0xb8, 0, 0, 0, 0, 0, 0, 0, 0, 0, 0, 0, 1, 64];
+    /// is_equal(&rt, net.to_bytes(), bytes);
+    /// ```
     pub fn to_bytes(&self) -> [u8; 17]
         ensures bytes { result ≡ ipv6_net_bytes self.now }
         ensures holds { HoldsIpv6 result self.now }
@@ -74,7 +91,14 @@ impl Ipv6Net {
     /// Reads the network that `to_bytes` made these bytes of. Does not allocate.
     ///
     /// # Errors
-    /// `AddrParseError` exactly if no network has these bytes: they aren't seventeen bytes, or the length is above 128.
+    /// - `AddrParseError`: exactly if there aren't seventeen bytes, or the last one, the length, is above 128.
+    ///
+    /// # Examples
+    /// For each network `net`:
+    ///
+    /// ```rust
+    /// is_equal(&rt, &Ipv6Net::from_bytes(&net.to_bytes()), &Ok(net));
+    /// ```
     pub fn from_bytes(bytes: &[u8]) -> Result<Ipv6Net, AddrParseError>
         ensures { Parses HoldsIpv6 bytes.now result }
     {

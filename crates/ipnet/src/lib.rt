@@ -1,4 +1,7 @@
 //! IP networks: sets of addresses with a common prefix, as text and as values.
+//!
+//! In the examples of calls, `rt` is the program's runtime, and `is_equal` checks that two values are equal. `v4`, `v6` and `any`
+//! parse the text of a network.
 #![tactic(auto)]
 
 pub use contains::Contains;

@@ -23,9 +23,25 @@ pub struct Net<N: Number> {
 }
 
 /// An IPv4 network: an address, host bits kept, and a prefix length of at most 32.
+///
+/// # Examples
+/// ```rust
+/// let net: Ipv4Net = "10.1.2.3/16".parse().expect(&rt, "a network");
+/// assert_eq!(rt; net.network(), Ipv4Addr::new(10, 1, 0, 0));
+/// assert!(rt; net.contains(&Ipv4Addr::new(10, 1, 255, 255)));
+/// ```
 pub type Ipv4Net = Net<u32>;
 
 /// An IPv6 network: an address, host bits kept, and a prefix length of at most 128.
+///
+/// # Examples
+/// `v6` parses a text:
+///
+/// ```rust
+/// let net = v6(&rt, "2001:db8::1/32");
+/// let same = Ipv6Net::new(net.addr(), 32).expect(&rt, "an IPv6 network");
+/// is_equal(&rt, net, same);
+/// ```
 pub type Ipv6Net = Net<u128>;
 
 impl<N: Number> Model for Net<N> {
@@ -56,7 +72,15 @@ impl<N: Number> Net<N> {
     /// Makes the network of this address and prefix length; host bits are kept.
     ///
     /// # Errors
-    /// `PrefixLenError` exactly if `prefix_len` is above the width of the family, 32 or 128.
+    /// - `PrefixLenError`: exactly if `prefix_len` is above the width of the family, 32 or 128.
+    ///
+    /// # Examples
+    /// For `net`, 10.1.2.3/16:
+    ///
+    /// ```rust
+    /// assert_eq!(rt; Ipv4Net::new(net.addr(), 16), Ok(net));
+    /// assert_eq!(rt; Ipv4Net::new(net.addr(), 33), Err(PrefixLenError));
+    /// ```
     pub fn new(addr: N::Addr, prefix_len: u8) -> Result<Net<N>, PrefixLenError>
         ensures variant { IsOk result ↔ (prefix_len ≤ width N.family) }
         ensures parts { IfOk result (λ n. n ≡ record { number = N.addr_number addr; len = prefix_len }) }
@@ -68,6 +92,13 @@ impl<N: Number> Net<N> {
     }
 
     /// Makes the network of this address and prefix length, which must be at most the width of the family; host bits are kept.
+    ///
+    /// # Examples
+    /// For `addr`, 10.1.2.3:
+    ///
+    /// ```rust
+    /// is_equal(&rt, Ipv4Net::from(addr), Ipv4Net::new_assert(addr, 32));
+    /// ```
     pub fn new_assert(addr: N::Addr, prefix_len: u8) -> Net<N>
         requires { prefix_len ≤ width N.family }
         ensures { result ≡ record { number = N.addr_number addr; len = prefix_len } }
@@ -83,7 +114,15 @@ impl<N: Number> Net<N> {
     /// Makes the network of this address; its prefix length is the number of ones of the mask, and host bits are kept.
     ///
     /// # Errors
-    /// `PrefixLenError` exactly if the mask isn't ones followed by zeros.
+    /// - `PrefixLenError`: exactly if the mask isn't ones followed by zeros.
+    ///
+    /// # Examples
+    /// For `net`, 10.1.2.3/16:
+    ///
+    /// ```rust
+    /// let masked = Ipv4Net::with_netmask(net.addr(), Ipv4Addr::new(255, 255, 0, 0));
+    /// assert_eq!(rt; masked, Ok(net));
+    /// ```
     pub fn with_netmask(addr: N::Addr, netmask: N::Addr) -> Result<Net<N>, PrefixLenError>
         ensures { MatchResult result
             (λ n. (n.number ≡ N.addr_number addr) × IsMask (record { family = N.family; number = N.addr_number netmask }) n.len)
@@ -93,6 +132,15 @@ impl<N: Number> Net<N> {
     }
 
     /// Returns the address of the network, with its host bits.
+    ///
+    /// # Examples
+    /// `made` calls `new`:
+    ///
+    /// ```rust
+    /// let addr = Ipv4Addr::new(10, 1, 2, 3);
+    /// let net = made(&rt, addr, 16);
+    /// is_equal(&rt, net.addr(), addr);
+    /// ```
     pub fn addr(&self) -> N::Addr
         ensures value { N.addr_number result ≡ self.now.number }
         ensures within { self.now.number < 2 ^ width N.family }
@@ -109,6 +157,13 @@ impl<N: Number> Net<N> {
     }
 
     /// Returns the prefix length, from 0 to the width of the family.
+    ///
+    /// # Examples
+    /// For `net`, 10.1.2.3/16:
+    ///
+    /// ```rust
+    /// is_equal(&rt, net.prefix_len(), 16);
+    /// ```
     pub fn prefix_len(&self) -> u8
         ensures value { result ≡ self.now.len }
         ensures within { result ≤ width N.family }
@@ -117,6 +172,13 @@ impl<N: Number> Net<N> {
     }
 
     /// Returns the greatest prefix length of the family, 32 or 128.
+    ///
+    /// # Examples
+    /// For `net`, 10.1.2.3/16:
+    ///
+    /// ```rust
+    /// is_equal(&rt, net.max_prefix_len(), 32);
+    /// ```
     pub fn max_prefix_len(&self) -> u8
         ensures { result ≡ width N.family }
     {
@@ -124,6 +186,13 @@ impl<N: Number> Net<N> {
     }
 
     /// Returns the netmask: a one for each bit of the prefix, then zeros.
+    ///
+    /// # Examples
+    /// For `net`, 10.1.2.3/16:
+    ///
+    /// ```rust
+    /// is_equal(&rt, net.netmask(), Ipv4Addr::new(255, 255, 0, 0));
+    /// ```
     pub fn netmask(&self) -> N::Addr
         ensures { IsMask (record { family = N.family; number = N.addr_number result }) self.now.len }
     {
@@ -131,6 +200,13 @@ impl<N: Number> Net<N> {
     }
 
     /// Returns the complement of the netmask: zeros, then a one for each host bit.
+    ///
+    /// # Examples
+    /// For `net`, 10.1.2.3/16:
+    ///
+    /// ```rust
+    /// is_equal(&rt, net.hostmask(), Ipv4Addr::new(0, 0, 255, 255));
+    /// ```
     pub fn hostmask(&self) -> N::Addr
         ensures { N.addr_number result ≡ 2 ^ (width N.family - self.now.len) - 1 }
     {
@@ -138,6 +214,13 @@ impl<N: Number> Net<N> {
     }
 
     /// Returns the least address of the network.
+    ///
+    /// # Examples
+    /// For `net`, 10.1.2.3/16:
+    ///
+    /// ```rust
+    /// is_equal(&rt, net.network(), Ipv4Addr::new(10, 1, 0, 0));
+    /// ```
     pub fn network(&self) -> N::Addr
         ensures { N.addr_number result ≡ first (block_of N.family self.now) }
     {
@@ -145,6 +228,13 @@ impl<N: Number> Net<N> {
     }
 
     /// Returns the greatest address of the network.
+    ///
+    /// # Examples
+    /// For `net`, 10.1.2.3/16:
+    ///
+    /// ```rust
+    /// is_equal(&rt, net.broadcast(), Ipv4Addr::new(10, 1, 255, 255));
+    /// ```
     pub fn broadcast(&self) -> N::Addr
         ensures { N.addr_number result ≡ last (block_of N.family self.now) }
     {
@@ -152,6 +242,13 @@ impl<N: Number> Net<N> {
     }
 
     /// Returns the network without its host bits; it has the same addresses.
+    ///
+    /// # Examples
+    /// For `net`, 10.1.2.3/16; `made` calls `new`:
+    ///
+    /// ```rust
+    /// is_equal(&rt, net.trunc(), made(&rt, Ipv4Addr::new(10, 1, 0, 0), 16));
+    /// ```
     pub fn trunc(&self) -> Net<N>
         ensures value { result ≡ net_of (block_of N.family self.now) }
         ensures network { IsNetwork N.family self.now }
@@ -163,6 +260,15 @@ impl<N: Number> Net<N> {
     }
 
     /// Returns the containing network that is one bit shorter, without host bits, or `None` exactly if the length is 0.
+    ///
+    /// # Examples
+    /// `v4` parses a text:
+    ///
+    /// ```rust
+    /// let half = v4(&rt, "10.200.0.1/9");
+    /// is_equal(&rt, half.supernet(), Some(v4(&rt, "10.0.0.0/8")));
+    /// is_equal(&rt, Ipv4Net::default().supernet(), None);
+    /// ```
     pub fn supernet(&self) -> Option<Net<N>>
         ensures { MatchOption result (self.now.len ≡ 0) (λ n. (0 < self.now.len) × (n ≡ net_of (parent (block_of N.family self.now)))) }
     {
@@ -177,6 +283,14 @@ impl<N: Number> Net<N> {
     }
 
     /// Returns whether the networks have the same length above 0 and the same supernet.
+    ///
+    /// # Examples
+    /// For `half`, 10.200.0.1/9; `v4` parses a text:
+    ///
+    /// ```rust
+    /// is_equal(&rt, half.is_sibling(&v4(&rt, "10.0.0.0/9")), true);
+    /// is_equal(&rt, half.is_sibling(&v4(&rt, "11.0.0.0/9")), false);
+    /// ```
     pub fn is_sibling(&self, other: &Net<N>) -> bool
         ensures { IsTrue result ↔ AreSiblings (block_of N.family self.now) (block_of N.family other.now) }
     {
@@ -188,6 +302,12 @@ impl<N: Number> Net<N> {
 }
 
 /// The default is the whole family, `0.0.0.0/0` or `::/0`.
+///
+/// # Examples
+/// ```rust
+/// let greatest = Ipv6Addr::from_bits(u128::MAX);
+/// is_equal(&rt, Ipv6Net::default().broadcast(), greatest);
+/// ```
 impl<N: Number> Default for Net<N> {
     ghost is_default = { λ n. n ≡ record { number = 0; len = 0 } };
 

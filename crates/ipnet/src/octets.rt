@@ -10,6 +10,15 @@ use arrayvec::ArrayVec;
 
 impl IpNet {
     /// Returns a byte for the family, 0 (IPv4) or 1 (IPv6), and then the bytes of the network. Does not allocate.
+    ///
+    /// # Examples
+    /// `v4` parses a text:
+    ///
+    /// ```rust
+    /// let net = IpNet::V4(v4(&rt, "10.1.2.3/16"));
+    /// let bytes = [0, 0x0a, 1, 2, 3, 0x10];
+    /// is_equal(&rt, net.to_bytes().as_slice(), bytes.as_slice());
+    /// ```
     pub fn to_bytes(&self) -> ArrayVec<u8, 18>
         ensures bytes { result.items ≡ net_bytes self.now }
         ensures holds { Holds result.items self.now }
@@ -31,8 +40,17 @@ impl IpNet {
     /// Reads the network that `to_bytes` made these bytes of. Does not allocate.
     ///
     /// # Errors
-    /// `AddrParseError` exactly if no network has these bytes: the first byte isn't 0 or 1, there are too few or too many bytes, or the
-    /// length is above the width of the family.
+    /// - `AddrParseError`: exactly if the first byte is neither 0 nor 1, there are too few or too many bytes for the family, or the length
+    ///   is above its width.
+    ///
+    /// # Examples
+    /// For the network of each `text`; `any` parses it, and `row_is` compares:
+    ///
+    /// ```rust
+    /// let net = any(&rt, text);
+    /// let back = IpNet::from_bytes(net.to_bytes().as_slice());
+    /// row_is(&rt, text, &back, &Ok(net));
+    /// ```
     pub fn from_bytes(bytes: &[u8]) -> Result<IpNet, AddrParseError>
         ensures { Parses Holds bytes.now result }
     {

@@ -34,6 +34,14 @@ pub struct Subnets<N: Number> {
 pub type Ipv4Subnets = Subnets<u32>;
 
 /// The blocks between two IPv6 addresses.
+///
+/// # Examples
+/// From `low()`, the address 0, to `high()`, the greatest address; `v6` parses a text:
+///
+/// ```rust
+/// let mut all = Ipv6Subnets::new(low(), high(), 0);
+/// is_equal(&rt, all.next(), Some(v6(&rt, "::/0")));
+/// ```
 pub type Ipv6Subnets = Subnets<u128>;
 
 impl<N: Number> Model for Subnets<N> {
@@ -63,6 +71,16 @@ impl<N: Number> Clone for Subnets<N> {
 impl<N: Number> Subnets<N> {
     /// The blocks from `start` to `end` of length at least `min_prefix_len`, which must be at most the width of the family. There are
     /// none if `start` is above `end`.
+    ///
+    /// # Examples
+    /// `v4` parses a text:
+    ///
+    /// ```rust
+    /// let mut blocks = Ipv4Subnets::new(Ipv4Addr::new(10, 0, 0, 0), Ipv4Addr::new(10, 0, 0, 5), 0);
+    /// assert_eq!(rt; blocks.next(), Some(v4(&rt, "10.0.0.0/30")));
+    /// assert_eq!(rt; blocks.next(), Some(v4(&rt, "10.0.0.4/31")));
+    /// assert_eq!(rt; blocks.next(), None);
+    /// ```
     pub fn new(start: N::Addr, end: N::Addr, min_prefix_len: u8) -> Subnets<N>
         requires { min_prefix_len ≤ width N.family }
         ensures limits { result ≡ record { start = N.addr_number start; end = N.addr_number end; shortest = min_prefix_len } }
@@ -149,7 +167,18 @@ impl<N: Number> Net<N> {
     /// Returns the networks of this prefix length inside the network, in ascending order.
     ///
     /// # Errors
-    /// `PrefixLenError` exactly if `new_prefix_len` is below the network's own length or above the width of the family.
+    /// - `PrefixLenError`: exactly if `new_prefix_len` is below the network's own length or above the width of the family.
+    ///
+    /// # Examples
+    /// For `net`, 10.0.0.0/8; `v4` parses a text:
+    ///
+    /// ```rust
+    /// assert_eq!(rt; net.subnets(33), Err(PrefixLenError));
+    /// let mut halves = net.subnets(9).expect(&rt, "halves");
+    /// assert_eq!(rt; halves.next(), Some(v4(&rt, "10.0.0.0/9")));
+    /// assert_eq!(rt; halves.next(), Some(v4(&rt, "10.128.0.0/9")));
+    /// assert_eq!(rt; halves.next(), None);
+    /// ```
     pub fn subnets(&self, new_prefix_len: u8) -> Result<Subnets<N>, PrefixLenError>
         ensures variant { IsOk result ↔ ((self.now.len ≤ new_prefix_len) × (new_prefix_len ≤ width N.family)) }
         ensures limits { IfOk result (λ s. s ≡ record { start = first (block_of N.family self.now); end = last (block_of N.family self.now); shortest = new_prefix_len }) }
@@ -165,6 +194,14 @@ impl<N: Number> Net<N> {
 
 impl IpNet {
     /// Returns the addresses of the hosts: all but `network` and `broadcast` for IPv4 below length 31, and else all.
+    ///
+    /// # Examples
+    /// `any` parses a text:
+    ///
+    /// ```rust
+    /// let four = any(&rt, "::4/126").hosts();
+    /// is_equal(&rt, four.size_hint(), (4, Some(4)));
+    /// ```
     pub fn hosts(&self) -> IpAddrRange
         ensures family { family_of result ≡ family self.now }
         ensures ends { ends_of result ≡ host_ends (block self.now) }
@@ -178,7 +215,16 @@ impl IpNet {
     /// Returns the networks of this prefix length inside the network, in ascending order.
     ///
     /// # Errors
-    /// `PrefixLenError` exactly if `new_prefix_len` is below the network's own length or above the width of its family.
+    /// - `PrefixLenError`: exactly if `new_prefix_len` is below the network's own length or above the width of its family.
+    ///
+    /// # Examples
+    /// `any` parses a text:
+    ///
+    /// ```rust
+    /// let mut halves = any(&rt, "2001:db8::/32").subnets(33).expect(&rt, "halves");
+    /// assert_eq!(rt; halves.next(), Some(any(&rt, "2001:db8::/33")));
+    /// assert_eq!(rt; halves.next(), Some(any(&rt, "2001:db8:8000::/33")));
+    /// ```
     pub fn subnets(&self, new_prefix_len: u8) -> Result<IpSubnets, PrefixLenError>
         ensures variant { IsOk result ↔ (((parts self.now).len ≤ new_prefix_len) × (new_prefix_len ≤ width (family self.now))) }
         ensures limits { IfOk result (λ s. s ≡ ip_limits (family self.now) (record { start = first (block self.now); end = last (block self.now); shortest = new_prefix_len })) }

@@ -15,6 +15,16 @@ use std::{fmt, str};
 use thiserror::Error;
 
 /// The text spells no network.
+///
+/// # Examples
+/// `shows` checks the displayed text:
+///
+/// ```rust
+/// let Err(error) = Ipv4Net::parse_ascii(b"10.0.0.0") else {
+///     panic!(&rt; "read")
+/// };
+/// shows(&rt, rt.alloc(), &error, "invalid IP address syntax");
+/// ```
 #[derive(Clone, Debug, PartialEq, Eq, Drop, Error)]
 #[error("invalid IP address syntax")]
 pub struct AddrParseError(pub(crate) ());
@@ -39,7 +49,7 @@ pub trait Written: Number {
     /// Reads the network that these bytes spell.
     ///
     /// # Errors
-    /// `AddrParseError` exactly if these bytes spell no network.
+    /// - `AddrParseError`: exactly if these bytes spell no network.
     fn parse_ascii(bytes: &[u8]) -> Result<Net<Self>, AddrParseError>
         ensures { Parses reads bytes.now result };
 }
@@ -57,7 +67,7 @@ impl<N: Written> Net<N> {
     /// Reads the network that these bytes spell, as `from_str` does. Does not allocate.
     ///
     /// # Errors
-    /// `AddrParseError` exactly if these bytes spell no network.
+    /// - `AddrParseError`: exactly if these bytes spell no network.
     pub fn parse_ascii(text: &[u8]) -> Result<Net<N>, AddrParseError>
         ensures { Parses N.reads text.now result }
     {
@@ -65,6 +75,16 @@ impl<N: Written> Net<N> {
     }
 }
 
+/// Reads the network that the text spells. Does not allocate.
+///
+/// # Errors
+/// - `AddrParseError`: exactly if the text spells no network.
+///
+/// # Examples
+/// ```rust
+/// assert!(rt; Ipv4Net::from_str("10.0.0.0/8").is_ok());
+/// assert!(rt; Ipv4Net::from_str("10.0.0.0/33").is_err());
+/// ```
 impl<N: Written> FromStr for Net<N> {
     type Err = AddrParseError;
 
@@ -77,6 +97,15 @@ impl<N: Written> FromStr for Net<N> {
 
 /// Writes the address, a slash and the length. An IPv4 address is four decimal octets, and an IPv6 address is written as in RFC 5952.
 /// The formatter's width, fill and sign are ignored.
+///
+/// # Examples
+/// `v4` parses a text:
+///
+/// ```rust
+/// let net = v4(&rt, "010.1.2.3/16");
+/// let text = format!(in rt.alloc(); "{net}").expect(&rt, "memory");
+/// assert_eq!(rt; text.as_str(), "10.1.2.3/16");
+/// ```
 impl<N: Written> fmt::Display for Net<N> {
     ghost output = { λ n. Some (N.text n) };
 
@@ -102,6 +131,13 @@ impl<N: Written> fmt::Debug for Net<N> {
 
 impl IpNet {
     /// Returns the text that `Display` writes, at most 43 bytes. Does not allocate.
+    ///
+    /// # Examples
+    /// For `net`, 2001:db8::1/32:
+    ///
+    /// ```rust
+    /// assert_eq!(rt; net.to_text().as_slice(), b"2001:db8::1/32".as_slice());
+    /// ```
     pub fn to_text(&self) -> ArrayVec<u8, 43>
         ensures text { result.items ≡ net_text self.now }
         ensures reads { Reads result.items self.now }
@@ -128,7 +164,13 @@ impl IpNet {
     /// Reads the network that these bytes spell, as `from_str` does. Does not allocate.
     ///
     /// # Errors
-    /// `AddrParseError` exactly if these bytes spell no network.
+    /// - `AddrParseError`: exactly if these bytes spell no network.
+    ///
+    /// # Examples
+    /// ```rust
+    /// let net = IpNet::parse_ascii(b"2001:DB8::1/32").expect(&rt, "a network");
+    /// assert_eq!(rt; net.to_text().as_slice(), b"2001:db8::1/32".as_slice());
+    /// ```
     pub fn parse_ascii(text: &[u8]) -> Result<IpNet, AddrParseError>
         ensures { Parses Reads text.now result }
     {
@@ -142,6 +184,17 @@ impl IpNet {
     }
 }
 
+/// Reads the network that the text spells. Does not allocate.
+///
+/// # Errors
+/// - `AddrParseError`: exactly if the text spells no network.
+///
+/// # Examples
+/// ```rust
+/// assert!(rt; matches!(IpNet::from_str("10.0.0.0/8"), Ok(IpNet::V4(_))));
+/// assert!(rt; matches!(IpNet::from_str("2001:db8::/32"), Ok(IpNet::V6(_))));
+/// assert!(rt; matches!(IpNet::from_str("10.0.0.0"), Err(_)));
+/// ```
 impl FromStr for IpNet {
     type Err = AddrParseError;
 

@@ -18,7 +18,15 @@ impl<N: Written> Net<N> {
     /// Returns the network's text as a JSON string.
     ///
     /// # Errors
-    /// `AllocError` if an allocation fails.
+    /// - `AllocError`: if an allocation fails.
+    ///
+    /// # Examples
+    /// For `net`, 10.1.2.3/16:
+    ///
+    /// ```rust
+    /// let value = net.to_value(rt.alloc()).expect(&rt, "memory");
+    /// assert_eq!(rt; value.as_str(), Some("10.1.2.3/16"));
+    /// ```
     pub fn to_value(&self, alloc: Global) -> Result<Value, AllocError>
         ensures { IfOk result (λ v. view v ≡ string (N.text self.now)) }
     {
@@ -28,7 +36,14 @@ impl<N: Written> Net<N> {
     /// Reads the network that a JSON string spells.
     ///
     /// # Errors
-    /// `AddrParseError` exactly if the value isn't a string that spells a network.
+    /// - `AddrParseError`: exactly if the value isn't a string that spells a network.
+    ///
+    /// # Examples
+    /// For `value`, which `to_value` returned for `net`:
+    ///
+    /// ```rust
+    /// assert_eq!(rt; Ipv4Net::from_value(&value), Ok(net));
+    /// ```
     pub fn from_value(value: &Value) -> Result<Net<N>, AddrParseError>
         ensures { MatchResult result (IsStringOf N.reads (view value.now)) (λ _. (n : Network) → IsStringOf N.reads (view value.now) n → ⊥) }
     {
@@ -43,7 +58,7 @@ impl IpNet {
     /// Returns the network's text as a JSON string.
     ///
     /// # Errors
-    /// `AllocError` if an allocation fails.
+    /// - `AllocError`: if an allocation fails.
     pub fn to_value(&self, alloc: Global) -> Result<Value, AllocError>
         ensures { IfOk result (λ v. view v ≡ string (net_text self.now)) }
     {
@@ -56,7 +71,7 @@ impl IpNet {
     /// Reads the network that a JSON string spells.
     ///
     /// # Errors
-    /// `AddrParseError` exactly if the value isn't a string that spells a network.
+    /// - `AddrParseError`: exactly if the value isn't a string that spells a network.
     pub fn from_value(value: &Value) -> Result<IpNet, AddrParseError>
         ensures { MatchResult result (IsStringOf Reads (view value.now)) (λ _. (n : AnyNet) → IsStringOf Reads (view value.now) n → ⊥) }
     {

@@ -22,6 +22,15 @@ pub struct AddrRange<N: Number> {
 pub type Ipv4AddrRange = AddrRange<u32>;
 
 /// A range of IPv6 addresses.
+///
+/// # Examples
+/// From `low()`, the address 0, to `high()`, the greatest address:
+///
+/// ```rust
+/// let mut all = Ipv6AddrRange::new(low(), high());
+/// is_equal(&rt, all.size_hint(), (usize::MAX, None));
+/// is_equal(&rt, all.next(), Some(low()));
+/// ```
 pub type Ipv6AddrRange = AddrRange<u128>;
 
 impl<N: Number> Model for AddrRange<N> {
@@ -50,6 +59,13 @@ impl<N: Number> Clone for AddrRange<N> {
 
 impl<N: Number> AddrRange<N> {
     /// The addresses from `start` to `end`, both included; an empty range if `start` is above `end`.
+    ///
+    /// # Examples
+    /// ```rust
+    /// let mut left = Ipv4AddrRange::new(Ipv4Addr::new(10, 0, 0, 1), Ipv4Addr::new(10, 0, 0, 4));
+    /// assert_eq!(rt; left.count(), 4);
+    /// assert_eq!(rt; left.next_back(), Some(Ipv4Addr::new(10, 0, 0, 4)));
+    /// ```
     pub fn new(start: N::Addr, end: N::Addr) -> AddrRange<N>
         ensures { result ≡ record { start = N.addr_number start; end = N.addr_number end } }
     {
@@ -60,6 +76,15 @@ impl<N: Number> AddrRange<N> {
     }
 
     /// Returns the address that the last of n + 1 calls of `next` returns, and leaves the range as these calls do. In constant time.
+    ///
+    /// # Examples
+    /// `ten(n)` is 10.0.0.n:
+    ///
+    /// ```rust
+    /// let mut rest = Ipv4AddrRange::new(ten(0), ten(3));
+    /// is_equal(&rt, rest.nth(2), Some(ten(2)));
+    /// is_equal(&rt, rest.next_back(), Some(ten(3)));
+    /// ```
     pub fn nth(&mut self, n: usize) -> Option<N::Addr>
         ensures answer { option_map N.addr_number result ≡ slice_get (numbers self.old) n }
         ensures ends { self.new ≡ times (n + 1) after_front self.old }
@@ -71,6 +96,15 @@ impl<N: Number> AddrRange<N> {
     }
 
     /// Returns the address that the last of n + 1 calls of `next_back` returns, and leaves the range as these calls do. In constant time.
+    ///
+    /// # Examples
+    /// `ten(n)` is 10.0.0.n:
+    ///
+    /// ```rust
+    /// let mut back = Ipv4AddrRange::new(ten(0), ten(3));
+    /// is_equal(&rt, back.nth_back(1), Some(ten(2)));
+    /// is_equal(&rt, back.next(), Some(ten(0)));
+    /// ```
     pub fn nth_back(&mut self, n: usize) -> Option<N::Addr>
         ensures answer { option_map N.addr_number result ≡ slice_get (reverse (numbers self.old)) n }
         ensures ends { self.new ≡ times (n + 1) after_back self.old }
@@ -82,6 +116,14 @@ impl<N: Number> AddrRange<N> {
     }
 
     /// Returns the last address, or `None` if the range is empty. In constant time.
+    ///
+    /// # Examples
+    /// `ten(n)` is 10.0.0.n:
+    ///
+    /// ```rust
+    /// let range = Ipv4AddrRange::new(ten(0), ten(3));
+    /// is_equal(&rt, range.last(), Some(ten(3)));
+    /// ```
     pub fn last(mut self) -> Option<N::Addr>
         ensures { option_map N.addr_number result ≡ slice_get (reverse (numbers self)) 0 }
     {
@@ -89,6 +131,13 @@ impl<N: Number> AddrRange<N> {
     }
 
     /// Returns the least address, or `None` if the range is empty. In constant time.
+    ///
+    /// # Examples
+    /// For `range` from `ten(0)` to `ten(3)`; `ten(n)` is 10.0.0.n:
+    ///
+    /// ```rust
+    /// is_equal(&rt, range.min(), Some(ten(0)));
+    /// ```
     #[tactic(auto, using(crate::proofs::RangeCalls::least_is))]
     pub fn min(mut self) -> Option<N::Addr>
         ensures { IsMinimum (numbers self) (option_map N.addr_number result) }
@@ -97,6 +146,13 @@ impl<N: Number> AddrRange<N> {
     }
 
     /// Returns the greatest address, or `None` if the range is empty. In constant time.
+    ///
+    /// # Examples
+    /// For `range` from `ten(0)` to `ten(3)`; `ten(n)` is 10.0.0.n:
+    ///
+    /// ```rust
+    /// is_equal(&rt, range.max(), Some(ten(3)));
+    /// ```
     #[tactic(auto, using(crate::proofs::RangeCalls::greatest_is))]
     pub fn max(self) -> Option<N::Addr>
         ensures { IsMaximum (numbers self) (option_map N.addr_number result) }
@@ -107,6 +163,12 @@ impl<N: Number> AddrRange<N> {
 
 impl AddrRange<u32> {
     /// Returns the number of addresses, at most 2^32. In constant time.
+    ///
+    /// # Examples
+    /// ```rust
+    /// let all = Ipv4AddrRange::new(Ipv4Addr::UNSPECIFIED, Ipv4Addr::BROADCAST);
+    /// is_equal(&rt, all.count(), 4_294_967_296);
+    /// ```
     pub fn count(self) -> usize
         ensures { result ≡ length (numbers self) }
     {

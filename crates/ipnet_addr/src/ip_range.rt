@@ -10,12 +10,21 @@ use crate::addr_range::{Ipv4AddrRange, Ipv6AddrRange};
 use std::net::IpAddr;
 
 /// A range of either family. Ranges are ordered by family, IPv4 first, then by start and end.
+///
+/// # Examples
+/// For `end`, an IPv6 range; `ten(9)` is 10.0.0.9:
+///
+/// ```rust
+/// let nine = IpAddrRange::from(Ipv4AddrRange::new(ten(9), ten(9)));
+/// is_equal(&rt, nine < end, true);
+/// ```
 #[derive(Clone, Copy, Debug, PartialEq, Eq, PartialOrd, Ord, Hash)]
 pub enum IpAddrRange {
     V4(Ipv4AddrRange),
     V6(Ipv6AddrRange),
 }
 
+/// The same range, as one of either family.
 impl From<Ipv4AddrRange> for IpAddrRange {
     ghost use Rattle.ipnet_addr.specs.declared.ip_range.IpAddrRange.TheVariants.{V4};
 
@@ -26,6 +35,16 @@ impl From<Ipv4AddrRange> for IpAddrRange {
     }
 }
 
+/// The same range, as one of either family.
+///
+/// # Examples
+/// `high()` is the greatest IPv6 address:
+///
+/// ```rust
+/// let mut end = IpAddrRange::from(Ipv6AddrRange::new(high(), high()));
+/// is_equal(&rt, end.size_hint(), (1, Some(1)));
+/// is_equal(&rt, end.min(), Some(IpAddr::V6(high())));
+/// ```
 impl From<Ipv6AddrRange> for IpAddrRange {
     ghost use Rattle.ipnet_addr.specs.declared.ip_range.IpAddrRange.TheVariants.{V6};
 
@@ -38,6 +57,14 @@ impl From<Ipv6AddrRange> for IpAddrRange {
 
 impl IpAddrRange {
     /// Returns the address that the last of n + 1 calls of `next` returns, and leaves the range as these calls do. In constant time.
+    ///
+    /// # Examples
+    /// `ten(n)` is 10.0.0.n:
+    ///
+    /// ```rust
+    /// let mut from = IpAddrRange::from(Ipv4AddrRange::new(ten(0), ten(9)));
+    /// is_equal(&rt, from.nth(1), Some(IpAddr::V4(ten(1))));
+    /// ```
     pub fn nth(&mut self, n: usize) -> Option<IpAddr>
         ensures answer { option_map address_of result ≡ slice_get (addresses self.old) n }
         ensures ends { self.new ≡ with_ends (times (n + 1) after_front) self.old }
@@ -49,6 +76,14 @@ impl IpAddrRange {
     }
 
     /// Returns the address that the last of n + 1 calls of `next_back` returns, and leaves the range as these calls do. In constant time.
+    ///
+    /// # Examples
+    /// For `from`, from `ten(2)` to `ten(9)`; `ten(n)` is 10.0.0.n:
+    ///
+    /// ```rust
+    /// is_equal(&rt, from.nth_back(1), Some(IpAddr::V4(ten(8))));
+    /// is_equal(&rt, from.max(), Some(IpAddr::V4(ten(7))));
+    /// ```
     pub fn nth_back(&mut self, n: usize) -> Option<IpAddr>
         ensures answer { option_map address_of result ≡ slice_get (reverse (addresses self.old)) n }
         ensures ends { self.new ≡ with_ends (times (n + 1) after_back) self.old }
@@ -71,6 +106,14 @@ impl IpAddrRange {
     }
 
     /// Returns the last address, or `None` if the range is empty. In constant time.
+    ///
+    /// # Examples
+    /// For `from`, from `ten(2)` to `ten(7)`; `ten(n)` is 10.0.0.n:
+    ///
+    /// ```rust
+    /// is_equal(&rt, from.last(), Some(IpAddr::V4(ten(7))));
+    /// is_equal(&rt, from.size_hint(), (6, Some(6)));
+    /// ```
     pub fn last(mut self) -> Option<IpAddr>
         ensures { option_map address_of result ≡ slice_get (reverse (addresses self)) 0 }
     {
@@ -78,6 +121,13 @@ impl IpAddrRange {
     }
 
     /// Returns the least address, or `None` if the range is empty. In constant time.
+    ///
+    /// # Examples
+    /// For `end`, a range of one IPv6 address, `high()`:
+    ///
+    /// ```rust
+    /// is_equal(&rt, end.min(), Some(IpAddr::V6(high())));
+    /// ```
     pub fn min(self) -> Option<IpAddr>
         ensures least { IsMinimum (numbers (ends_of self)) (option_map (λ a. (address_of a).number) result) }
         ensures family { IfSome result (λ a. (address_of a).family ≡ family_of self) }
@@ -89,6 +139,13 @@ impl IpAddrRange {
     }
 
     /// Returns the greatest address, or `None` if the range is empty. In constant time.
+    ///
+    /// # Examples
+    /// For `from`, from `ten(2)` to `ten(7)`; `ten(n)` is 10.0.0.n:
+    ///
+    /// ```rust
+    /// is_equal(&rt, from.max(), Some(IpAddr::V4(ten(7))));
+    /// ```
     pub fn max(self) -> Option<IpAddr>
         ensures greatest { IsMaximum (numbers (ends_of self)) (option_map (λ a. (address_of a).number) result) }
         ensures family { IfSome result (λ a. (address_of a).family ≡ family_of self) }

@@ -15,20 +15,51 @@ pub trait IpStep {
     ghost greatest: { ℕ };
 
     /// Sets the address to number 1, and returns the old address.
+    ///
+    /// # Examples
+    /// For `addr`, `::`:
+    ///
+    /// ```rust
+    /// is_equal(&rt, addr.replace_one(), Ipv6Addr::UNSPECIFIED);
+    /// is_equal(&rt, addr, Ipv6Addr::LOCALHOST);
+    /// ```
     fn replace_one(&mut self) -> Self
         ensures old { result ≡ self.old }
         ensures one { number self.new ≡ 1 };
 
     /// Sets the address to number 0, and returns the old address.
+    ///
+    /// # Examples
+    /// For `addr`, 0.0.0.1:
+    ///
+    /// ```rust
+    /// is_equal(&rt, addr.replace_zero(), Ipv4Addr::new(0, 0, 0, 1));
+    /// is_equal(&rt, addr, Ipv4Addr::UNSPECIFIED);
+    /// ```
     fn replace_zero(&mut self) -> Self
         ensures old { result ≡ self.old }
         ensures zero { number self.new ≡ 0 };
 
     /// Returns the next address; the greatest address stays.
+    ///
+    /// # Examples
+    /// For `addr`, 10.0.0.255, and `TOP4`, 255.255.255.255:
+    ///
+    /// ```rust
+    /// is_equal(&rt, addr.add_one(), Ipv4Addr::new(10, 0, 1, 0));
+    /// is_equal(&rt, addr.sub_one(), Ipv4Addr::new(10, 0, 0, 254));
+    /// is_equal(&rt, TOP4.add_one(), TOP4);
+    /// ```
     fn add_one(&self) -> Self
         ensures { number result ≡ min (number self.now + 1) greatest };
 
     /// Returns the previous address; the address 0 stays.
+    ///
+    /// # Examples
+    /// ```rust
+    /// let bottom = Ipv4Addr::UNSPECIFIED;
+    /// is_equal(&rt, bottom.sub_one(), Ipv4Addr::UNSPECIFIED);
+    /// ```
     fn sub_one(&self) -> Self
         ensures { number result ≡ number self.now - 1 };
 }
@@ -92,8 +123,17 @@ pub trait IpAdd<RHS> {
     /// Whether the third is the sum of the first two.
     ghost added: { Self → RHS → Self.Output → Type 0 };
 
-    /// False only if the text doesn't begin with an IPv4 address: it has at least four bytes, and none of the second to the fourth is a
-    /// dot.
+    /// Returns the sum, or the greatest address if the sum is above it.
+    ///
+    /// # Examples
+    /// For `TOP4`, 255.255.255.255:
+    ///
+    /// ```rust
+    /// let addr = Ipv4Addr::new(10, 0, 0, 1);
+    /// let sum = IpAdd::saturating_add(addr, 256);
+    /// is_equal(&rt, sum, Ipv4Addr::new(10, 0, 1, 1));
+    /// is_equal(&rt, IpAdd::saturating_add(TOP4, 1), TOP4);
+    /// ```
     fn saturating_add(self, rhs: RHS) -> Self::Output
         ensures { added self rhs result };
 }
@@ -106,6 +146,17 @@ pub trait IpSub<RHS> {
     ghost subtracted: { Self → RHS → Self.Output → Type 0 };
 
     /// Returns the difference, or 0 if it is negative.
+    ///
+    /// # Examples
+    /// For `addr`, 10.0.0.1, and `TOP4`, 255.255.255.255:
+    ///
+    /// ```rust
+    /// let difference = IpSub::<u32>::saturating_sub(addr, 2);
+    /// is_equal(&rt, difference, Ipv4Addr::new(9, 255, 255, 255));
+    /// let network = Ipv4Addr::new(10, 0, 0, 0);
+    /// is_equal(&rt, IpSub::<Ipv4Addr>::saturating_sub(addr, network), 1);
+    /// is_equal(&rt, IpSub::<Ipv4Addr>::saturating_sub(addr, TOP4), 0);
+    /// ```
     fn saturating_sub(self, rhs: RHS) -> Self::Output
         ensures { subtracted self rhs result };
 }
@@ -118,6 +169,14 @@ pub trait IpBitAnd<RHS> {
     ghost common: { Self → RHS → Self.Output → Type 0 };
 
     /// Returns the address whose bits are set in both.
+    ///
+    /// # Examples
+    /// For `addr`, 10.0.0.1:
+    ///
+    /// ```rust
+    /// let and = IpBitAnd::<Ipv4Addr>::bitand(addr, Ipv4Addr::new(255, 0, 0, 0));
+    /// is_equal(&rt, and, Ipv4Addr::new(10, 0, 0, 0));
+    /// ```
     fn bitand(self, rhs: RHS) -> Self::Output
         ensures { common self rhs result };
 }
@@ -130,6 +189,14 @@ pub trait IpBitOr<RHS> {
     ghost either: { Self → RHS → Self.Output → Type 0 };
 
     /// Returns the address whose bits are set in at least one of the two.
+    ///
+    /// # Examples
+    /// For `addr`, 10.0.0.1:
+    ///
+    /// ```rust
+    /// let filled = IpBitOr::<u32>::bitor(addr, 0xff);
+    /// is_equal(&rt, filled, Ipv4Addr::new(10, 0, 0, 255));
+    /// ```
     fn bitor(self, rhs: RHS) -> Self::Output
         ensures { either self rhs result };
 }

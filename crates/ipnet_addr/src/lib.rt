@@ -1,4 +1,6 @@
 //! Addresses as numbers, and their texts: the lowest layer of `ipnet`.
+//!
+//! In the examples of calls, `rt` is the program's runtime, and `is_equal` checks that two values are equal.
 #![tactic(auto)]
 
 mod addr_range;

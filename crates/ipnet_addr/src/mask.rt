@@ -9,6 +9,13 @@ use std::net::{IpAddr, Ipv4Addr, Ipv6Addr};
 use thiserror::Error;
 
 /// A prefix length is above the width of the address, or a mask isn't ones followed by zeros.
+///
+/// # Examples
+/// `shows` checks the displayed text:
+///
+/// ```rust
+/// shows(&rt, rt.alloc(), &PrefixLenError, "invalid IP prefix length");
+/// ```
 #[derive(Clone, Debug, PartialEq, Eq, Drop, Error)]
 #[error("invalid IP prefix length")]
 pub struct PrefixLenError;
@@ -41,7 +48,7 @@ fn mask_len(width: u8, mask: u128) -> Option<u8>
 /// Returns the number of ones of a mask of the family of `N`.
 ///
 /// # Errors
-/// `PrefixLenError` exactly if `mask` isn't ones followed by zeros.
+/// - `PrefixLenError`: exactly if `mask` isn't ones followed by zeros.
 pub fn mask_to_prefix<N: Number>(mask: N::Addr) -> Result<u8, PrefixLenError>
     ensures { MatchResult result (IsMask (record { family = N.family; number = N.addr_number mask })) (λ _. (len : ℕ) → IsMask (record { family = N.family; number = N.addr_number mask }) len → ⊥) }
 {
@@ -51,7 +58,17 @@ pub fn mask_to_prefix<N: Number>(mask: N::Addr) -> Result<u8, PrefixLenError>
 /// Returns the number of ones of an IPv4 mask.
 ///
 /// # Errors
-/// `PrefixLenError` exactly if `mask` isn't ones followed by zeros.
+/// - `PrefixLenError`: exactly if `mask` isn't ones followed by zeros.
+///
+/// # Examples
+/// ```rust
+/// let mask = Ipv4Addr::new(255, 254, 0, 0);
+/// assert_eq!(rt; ipv4_mask_to_prefix(mask), Ok(15));
+/// assert_eq!(rt;
+///     ipv4_mask_to_prefix(Ipv4Addr::new(255, 0, 255, 0)),
+///     Err(PrefixLenError)
+/// );
+/// ```
 pub fn ipv4_mask_to_prefix(mask: Ipv4Addr) -> Result<u8, PrefixLenError>
     ensures { MatchResult result (IsMask (ipv4_address mask)) (λ _. (len : ℕ) → IsMask (ipv4_address mask) len → ⊥) }
 {
@@ -61,7 +78,13 @@ pub fn ipv4_mask_to_prefix(mask: Ipv4Addr) -> Result<u8, PrefixLenError>
 /// Returns the number of ones of an IPv6 mask.
 ///
 /// # Errors
-/// `PrefixLenError` exactly if `mask` isn't ones followed by zeros.
+/// - `PrefixLenError`: exactly if `mask` isn't ones followed by zeros.
+///
+/// # Examples
+/// ```rust
+/// let mask = Ipv6Addr::new(0xffff, 0xffff, 0, 0, 0, 0, 0, 0);
+/// assert_eq!(rt; ipv6_mask_to_prefix(mask), Ok(32));
+/// ```
 pub fn ipv6_mask_to_prefix(mask: Ipv6Addr) -> Result<u8, PrefixLenError>
     ensures { MatchResult result (IsMask (ipv6_address mask)) (λ _. (len : ℕ) → IsMask (ipv6_address mask) len → ⊥) }
 {
@@ -71,7 +94,14 @@ pub fn ipv6_mask_to_prefix(mask: Ipv6Addr) -> Result<u8, PrefixLenError>
 /// Returns the number of ones of a mask of either family.
 ///
 /// # Errors
-/// `PrefixLenError` exactly if `mask` isn't ones followed by zeros.
+/// - `PrefixLenError`: exactly if `mask` isn't ones followed by zeros.
+///
+/// # Examples
+/// For `mask`, `ffff:ffff::`:
+///
+/// ```rust
+/// assert_eq!(rt; ip_mask_to_prefix(IpAddr::V6(mask)), Ok(32));
+/// ```
 pub fn ip_mask_to_prefix(mask: IpAddr) -> Result<u8, PrefixLenError>
     ensures { MatchResult result (IsMask (address_of mask)) (λ _. (len : ℕ) → IsMask (address_of mask) len → ⊥) }
 {

@@ -2,5 +2,6 @@
 mod addresses;
 mod compare;
 mod cuts;
+mod first_calls;
 mod forms;
 mod networks;

@@ -217,7 +217,7 @@ fn subnets_of_other_lengths(rt: HostRuntime) {
 }
 
 /// The networks of a text, separated by spaces.
-fn networks<T: FromStr<Err = AddrParseError> + Drop>(
+pub(crate) fn networks<T: FromStr<Err = AddrParseError> + Drop>(
     rt: &impl Abort,
     alloc: Global,
     words: &str,
