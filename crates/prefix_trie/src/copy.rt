@@ -17,6 +17,13 @@ impl<P: Prefix, T: Clone> PrefixMap<P, T> {
     ///
     /// # Errors
     /// `Memory` if an allocation fails, also one of a value's `clone`. All that was copied is dropped.
+    ///
+    /// # Examples
+    /// `map` is a `PrefixMap`:
+    ///
+    /// ```rust
+    /// let copy = map.try_clone(rt.alloc()).expect(&rt, "a copy");
+    /// ```
     pub fn try_clone(&self, alloc: Global) -> Result<PrefixMap<P, T>, Refused>
         requires { (x y : T) → T.is_clone x y → y ≡ x }
         ensures same { IfOk result (λ m. m ≡ self.now) }
@@ -39,6 +46,13 @@ impl<P: Prefix + Drop, T: Drop> PrefixMap<P, T> {
     ///
     /// # Errors
     /// `Memory` if an entry can't be inserted, as in `insert`. All that was stored is dropped.
+    ///
+    /// # Examples
+    /// `entries` is an array of pairs, each a prefix and its value:
+    ///
+    /// ```rust
+    /// PrefixMap::try_from_iter(alloc, Vec::from_array(alloc, entries).expect(rt, "entries"))
+    /// ```
     pub fn try_from_iter<U: IntoIterator<Item = (P, T)>>(
         alloc: Global,
         items: U,
