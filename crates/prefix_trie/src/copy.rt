@@ -16,7 +16,7 @@ impl<P: Prefix, T: Clone> PrefixMap<P, T> {
     /// Returns an equal map with as many nodes. Its values are clones, and a clone must equal the original.
     ///
     /// # Errors
-    /// `Memory` if an allocation fails, also one of a value's `clone`. All that was copied is dropped.
+    /// - `Memory`: an allocation fails, also one of a value's `clone`. All that was copied is dropped.
     ///
     /// # Examples
     /// `map` is a `PrefixMap`:
@@ -45,7 +45,7 @@ impl<P: Prefix + Drop, T: Drop> PrefixMap<P, T> {
     /// Makes the map of these entries, inserted in order: if a key occurs several times, its last value stays. The map is tidy.
     ///
     /// # Errors
-    /// `Memory` if an entry can't be inserted, as in `insert`. All that was stored is dropped.
+    /// - `Memory`: an entry can't be inserted, as in `insert`. All that was stored is dropped.
     ///
     /// # Examples
     /// `entries` is an array of pairs, each a prefix and its value:

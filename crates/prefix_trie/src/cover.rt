@@ -13,7 +13,7 @@ impl<P: Prefix, T> PrefixMap<P, T> {
     /// Returns the entries whose keys contain the prefix, its own entry included, shortest key first.
     ///
     /// # Examples
-    /// In a map with the value 1 at `wide`, 10.0.0.0/8, and the value 2 at `inner`, 10.1.0.0/16; `host` is 10.1.2.3/32:
+    /// In a map with the value 1 at `wide`, 10.0.0.0/8, and with 10.1.0.0/16; `host` is 10.1.2.3/32:
     ///
     /// ```rust
     /// assert_eq!(rt; map.cover(&host).next(), Some((wide, &1)));
@@ -44,7 +44,7 @@ impl<P: Prefix, T> PrefixMap<P, T> {
     /// Returns the values of the keys that contain the prefix, the prefix itself included, shortest key first.
     ///
     /// # Examples
-    /// In a map with the value 1 at 10.0.0.0/8, and the value 2 at 10.1.0.0/16; `host` is 10.1.2.3/32:
+    /// In a map with the value 1 at 10.0.0.0/8, and with 10.1.0.0/16; `host` is 10.1.2.3/32:
     ///
     /// ```rust
     /// assert_eq!(rt; map.cover_values(&host).next(), Some(&1));

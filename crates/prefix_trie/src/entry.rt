@@ -220,7 +220,7 @@ impl<'a, P: Prefix, T> VacantEntry<'a, P, T> {
     /// Stores the value, and returns a mutable reference to it.
     ///
     /// # Errors
-    /// `Memory` as in `PrefixMap::insert`. The map is unchanged, and the value is returned.
+    /// - `Memory`: as in `PrefixMap::insert`. The map is unchanged, and the value is returned.
     pub fn insert(self, value: T) -> Result<&'a mut T, (Refused, T)>
     where
         P: Drop,
@@ -262,7 +262,7 @@ impl<'a, P: Prefix, T> VacantEntry<'a, P, T> {
     /// Stores the result of `f`, and returns a mutable reference to it. `f` is called once.
     ///
     /// # Errors
-    /// `Memory` as in `PrefixMap::insert`. The map is unchanged, and the value is returned.
+    /// - `Memory`: as in `PrefixMap::insert`. The map is unchanged, and the value is returned.
     pub fn insert_with<F: FnOnce() -> T>(self, f: F) -> Result<&'a mut T, (Refused, T)>
     where
         P: Drop,
@@ -280,7 +280,7 @@ impl<'a, P: Prefix, T> VacantEntry<'a, P, T> {
     /// Stores the default value, and returns a mutable reference to it.
     ///
     /// # Errors
-    /// `Memory` as in `PrefixMap::insert`. The map is unchanged, and the value is returned.
+    /// - `Memory`: as in `PrefixMap::insert`. The map is unchanged, and the value is returned.
     ///
     /// # Examples
     /// If values are of type `u32`; `lent_is` compares the value:
@@ -369,7 +369,7 @@ impl<'a, P: Prefix, T> Entry<'a, P, T> {
     /// Stores the value, and returns the old value. If the key is stored, it does not allocate and never fails. The entry keeps its key.
     ///
     /// # Errors
-    /// As in `PrefixMap::insert`. The map is unchanged, and the value is returned.
+    /// - `Memory`: as in `PrefixMap::insert`. The map is unchanged, and the value is returned.
     ///
     /// # Examples
     /// In an empty map; `net` reads a network. `had_is` compares the old value, and `is_equal` two values:
@@ -436,7 +436,7 @@ impl<'a, P: Prefix, T> Entry<'a, P, T> {
     /// Returns a mutable reference to the value; if there is none, stores `value` first.
     ///
     /// # Errors
-    /// If the key isn't stored, as in `VacantEntry::insert`.
+    /// - `Memory`: as in `VacantEntry::insert`, and only if the key isn't stored.
     ///
     /// # Examples
     /// In a map with the value 5 at 10.0.0.0/8; `net` reads a network, and `lent_is` compares the value:
@@ -463,7 +463,7 @@ impl<'a, P: Prefix, T> Entry<'a, P, T> {
     /// Returns a mutable reference to the value; if there is none, stores the result of `f` first. `f` is called once, and only then.
     ///
     /// # Errors
-    /// If the key isn't stored, as in `VacantEntry::insert`.
+    /// - `Memory`: as in `VacantEntry::insert`, and only if the key isn't stored.
     ///
     /// # Examples
     /// In a map without `host`, 10.1.2.3/32:
@@ -492,7 +492,7 @@ impl<'a, P: Prefix, T> Entry<'a, P, T> {
     /// Returns a mutable reference to the value; if there is none, stores the default value first.
     ///
     /// # Errors
-    /// If the key isn't stored, as in `VacantEntry::insert`.
+    /// - `Memory`: as in `VacantEntry::insert`, and only if the key isn't stored.
     ///
     /// # Examples
     /// If a value is stored; `lent_is` compares the value:

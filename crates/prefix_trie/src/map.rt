@@ -235,7 +235,7 @@ impl<P: Prefix, T> PrefixMap<P, T> {
     /// Returns the shortest key that contains the prefix, possibly the prefix itself, and its value.
     ///
     /// # Examples
-    /// In a map with the value 1 at `wide`, 10.0.0.0/8, and the value 2 at `inner`, 10.1.0.0/16; `host` is 10.1.2.3/32:
+    /// In a map with the value 1 at `wide`, 10.0.0.0/8, and with 10.1.0.0/16; `host` is 10.1.2.3/32:
     ///
     /// ```rust
     /// assert_eq!(rt; map.get_spm(&host), Some((wide, &1)));
@@ -271,10 +271,10 @@ impl<P: Prefix, T> PrefixMap<P, T> {
     /// Returns whether a key contains the prefix.
     ///
     /// # Examples
-    /// In a map with 10.0.0.0/8; `host` is 10.1.2.3/32, and `net` reads a network:
+    /// In a map with 10.0.0.0/8; `host` is 10.1.2.3/32, and `other` is 11.0.0.0/8:
     ///
     /// ```rust
-    /// assert!(rt; map.is_covered(&host) && !map.is_covered(&net(&rt, "11.0.0.0/8")));
+    /// assert!(rt; map.is_covered(&host) && !map.is_covered(&other));
     /// ```
     pub fn is_covered(&self, prefix: &P) -> bool
         requires { IsTrue (P.fits prefix.now) }
@@ -351,7 +351,7 @@ impl<P: Prefix + Drop, T: Drop> PrefixMap<P, T> {
     /// Stores the value at the key, and returns the old value. If the key is stored, it does not allocate and never fails.
     ///
     /// # Errors
-    /// `Memory` if an allocation fails, or if one more entry or node can't be counted. The map is unchanged, and the value is returned.
+    /// - `Memory`: an allocation fails, or one more entry or node can't be counted. The map is unchanged, and the value is returned.
     ///
     /// # Examples
     /// ```rust
@@ -380,7 +380,7 @@ impl<P: Prefix + Drop, T: Drop> PrefixMap<P, T> {
     /// but without its search.
     ///
     /// # Errors
-    /// As in `insert`.
+    /// - `Memory`: as in `insert`.
     pub fn insert_is_leaf(&mut self, prefix: P, value: T) -> Result<(Option<T>, bool), (Refused, T)>
         requires { IsTrue (P.fits prefix) }
         ensures old { IfOk result (λ r. r.0 ≡ map.get self.old.entries (P.bits prefix)) }

@@ -30,10 +30,10 @@ impl<P: Prefix + Drop, T: Drop> PrefixMap<P, T> {
     /// not allocate.
     ///
     /// # Examples
-    /// In a map with 10.0.0.0/8 and 10.1.0.0/16; `net` reads a network:
+    /// In a map with 10.0.0.0/8, and `inner`, 10.1.0.0/16:
     ///
     /// ```rust
-    /// map.remove_children(&net(&rt, "10.1.0.0/16"));
+    /// map.remove_children(&inner);
     /// assert_eq!(rt; map.len(), 1);
     /// ```
     pub fn remove_children(&mut self, prefix: &P)

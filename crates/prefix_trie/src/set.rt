@@ -126,7 +126,7 @@ impl<P: Prefix> PrefixSet<P> {
     /// Returns an equal set with as many nodes.
     ///
     /// # Errors
-    /// `Memory` if an allocation fails. All that was copied is dropped.
+    /// - `Memory`: an allocation fails. All that was copied is dropped.
     ///
     /// # Examples
     /// `is_copy` checks that `copy == set`:
@@ -291,7 +291,7 @@ impl<P: Prefix + Drop> PrefixSet<P> {
     /// Makes the set of these prefixes. It is tidy.
     ///
     /// # Errors
-    /// `Memory` if a prefix can't be inserted, as in `insert`. All that was stored is dropped.
+    /// - `Memory`: a prefix can't be inserted, as in `insert`. All that was stored is dropped.
     ///
     /// # Examples
     /// `members` is an array of prefixes:
@@ -319,7 +319,7 @@ impl<P: Prefix + Drop> PrefixSet<P> {
     /// Inserts the prefix, and returns whether it is new. If it is a member, it does not allocate and never fails.
     ///
     /// # Errors
-    /// `Memory` as in `PrefixMap::insert`. The set is unchanged.
+    /// - `Memory`: as in `PrefixMap::insert`. The set is unchanged.
     ///
     /// # Examples
     /// ```rust
