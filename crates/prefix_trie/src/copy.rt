@@ -16,7 +16,14 @@ impl<P: Prefix, T: Clone> PrefixMap<P, T> {
     /// Returns an equal map with as many nodes. Its values are clones, and a clone must equal the original.
     ///
     /// # Errors
-    /// `Memory` if an allocation fails, also one of a value's `clone`. All that was copied is dropped.
+    /// - `Memory`: an allocation fails, also one of a value's `clone`. All that was copied is dropped.
+    ///
+    /// # Examples
+    /// `map` is a `PrefixMap`:
+    ///
+    /// ```rust
+    /// let copy = map.try_clone(rt.alloc()).expect(&rt, "a copy");
+    /// ```
     pub fn try_clone(&self, alloc: Global) -> Result<PrefixMap<P, T>, Refused>
         requires { (x y : T) → T.is_clone x y → y ≡ x }
         ensures same { IfOk result (λ m. m ≡ self.now) }
@@ -38,7 +45,14 @@ impl<P: Prefix + Drop, T: Drop> PrefixMap<P, T> {
     /// Makes the map of these entries, inserted in order: if a key occurs several times, its last value stays. The map is tidy.
     ///
     /// # Errors
-    /// `Memory` if an entry can't be inserted, as in `insert`. All that was stored is dropped.
+    /// - `Memory`: an entry can't be inserted, as in `insert`. All that was stored is dropped.
+    ///
+    /// # Examples
+    /// `entries` is an array of pairs, each a prefix and its value:
+    ///
+    /// ```rust
+    /// PrefixMap::try_from_iter(alloc, Vec::from_array(alloc, entries).expect(rt, "entries"))
+    /// ```
     pub fn try_from_iter<U: IntoIterator<Item = (P, T)>>(
         alloc: Global,
         items: U,

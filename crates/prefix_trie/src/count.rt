@@ -34,6 +34,13 @@ fn without(left: u128, free: u8) -> Option<u128>
 impl<P: Prefix + Drop, T> PrefixMap<P, T> {
     /// Returns the number of addresses that the keys cover, each counted once. An address is a prefix of full length. Returns `None` if
     /// the keys cover all addresses, since their number doesn't fit. Does not allocate.
+    ///
+    /// # Examples
+    /// In a map with 10.0.0.0/8 and 10.1.0.0/16, which is inside it:
+    ///
+    /// ```rust
+    /// assert_eq!(rt; map.address_count(), Some(1 << 24));
+    /// ```
     pub fn address_count(&self) -> Option<P::R>
         ensures { MatchOption result (covered_count P.R.width self.now.entries ≡ 2 ^ P.R.width) (λ n. (P.R.number n ≡ covered_count P.R.width self.now.entries) × (covered_count P.R.width self.now.entries < 2 ^ P.R.width)) }
     {

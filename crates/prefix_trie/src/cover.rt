@@ -11,6 +11,13 @@ use trie_core::Cover as Way;
 
 impl<P: Prefix, T> PrefixMap<P, T> {
     /// Returns the entries whose keys contain the prefix, its own entry included, shortest key first.
+    ///
+    /// # Examples
+    /// In a map with the value 1 at `wide`, 10.0.0.0/8, and with 10.1.0.0/16; `host` is 10.1.2.3/32:
+    ///
+    /// ```rust
+    /// assert_eq!(rt; map.cover(&host).next(), Some((wide, &1)));
+    /// ```
     #[tactic(auto, using(crate::proofs::KeyLengths::keys_where))]
     pub fn cover(&self, prefix: &P) -> Cover<'_, P, T>
         requires { IsTrue (P.fits prefix.now) }
@@ -20,6 +27,13 @@ impl<P: Prefix, T> PrefixMap<P, T> {
     }
 
     /// Returns the keys that contain the prefix, the prefix itself included, shortest first.
+    ///
+    /// # Examples
+    /// In a map with `wide`, 10.0.0.0/8, and 10.1.0.0/16; `host` is 10.1.2.3/32:
+    ///
+    /// ```rust
+    /// assert_eq!(rt; map.cover_keys(&host).next(), Some(wide));
+    /// ```
     pub fn cover_keys(&self, prefix: &P) -> CoverKeys<'_, P, T>
         requires { IsTrue (P.fits prefix.now) }
         ensures { result ≡ map (λ e. e.0) (where_key bits_cmp (λ k. begins k (P.bits prefix.now)) (entries self.now.entries)) }
@@ -28,6 +42,13 @@ impl<P: Prefix, T> PrefixMap<P, T> {
     }
 
     /// Returns the values of the keys that contain the prefix, the prefix itself included, shortest key first.
+    ///
+    /// # Examples
+    /// In a map with the value 1 at 10.0.0.0/8, and with 10.1.0.0/16; `host` is 10.1.2.3/32:
+    ///
+    /// ```rust
+    /// assert_eq!(rt; map.cover_values(&host).next(), Some(&1));
+    /// ```
     pub fn cover_values(&self, prefix: &P) -> CoverValues<'_, P, T>
         requires { IsTrue (P.fits prefix.now) }
         ensures { result ≡ map (λ e. e.1) (where_key bits_cmp (λ k. begins k (P.bits prefix.now)) (entries self.now.entries)) }

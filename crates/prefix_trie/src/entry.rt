@@ -47,6 +47,14 @@ impl<P: Prefix, T> PrefixMap<P, T> {
     ghost use Rattle.prefix_trie.specs.Entry.{entry_map_ref, entry_map, entry_key, MatchEntry};
 
     /// Returns the entry of a prefix, to read, store or change its value. Changes nothing, and does not allocate.
+    ///
+    /// # Examples
+    /// In a map with `inner`:
+    ///
+    /// ```rust
+    /// *map.entry(inner).or_insert(0).expect(&rt, "memory") = 7;
+    /// assert_eq!(rt; map.get(&inner), Some(&7));
+    /// ```
     pub fn entry(&mut self, prefix: P) -> Entry<'_, P, T>
     where
         P: Drop,
@@ -74,6 +82,16 @@ impl<'a, P: Prefix, T> OccupiedEntry<'a, P, T> {
     ghost use Rattle.prefix_trie.specs.Entry.{Occupied, entry_map, entry_key, entry_value, IsWritten, with_entry_value, entry_lends, occupied_lends};
 
     /// Returns the key; its bits after the prefix are zero.
+    ///
+    /// # Examples
+    /// In a map with 10.0.0.0/8; `net` reads a network, and `is_text` compares one with a text:
+    ///
+    /// ```rust
+    /// let Entry::Occupied(mut entry) = map.entry(net(rt, "10.9.9.9/8")) else {
+    ///     panic!(rt; "vacant")
+    /// };
+    /// is_text(rt, *entry.key(), "10.0.0.0/8");
+    /// ```
     pub fn key(&self) -> &P
         ensures key { result.now ≡ entry_key (Occupied self.now) }
         ensures fits { IsTrue (P.fits result.now) }
@@ -89,6 +107,14 @@ impl<'a, P: Prefix, T> OccupiedEntry<'a, P, T> {
     }
 
     /// Returns a mutable reference to the value.
+    ///
+    /// # Examples
+    /// `is_equal` compares:
+    ///
+    /// ```rust
+    /// *entry.get_mut() = 10;
+    /// is_equal(rt, *entry.get(), 10);
+    /// ```
     pub fn get_mut(&mut self) -> &mut T
         ensures* writes_back { sem 𝓛 (occupied_lends P.row T.row P.R.row self.entry result) }
         ensures value { entry_value (Occupied self.old) ≡ Some result.now }
@@ -99,6 +125,13 @@ impl<'a, P: Prefix, T> OccupiedEntry<'a, P, T> {
     }
 
     /// Stores the value, and returns the old value. Does not allocate and never fails.
+    ///
+    /// # Examples
+    /// If the value is 7; `is_equal` compares:
+    ///
+    /// ```rust
+    /// is_equal(rt, entry.insert(8), 7);
+    /// ```
     pub fn insert(&mut self, value: T) -> T
         ensures old { entry_value (Occupied self.old) ≡ Some result }
         ensures written { IsWritten (Occupied self.old) value (Occupied self.new) }
@@ -107,6 +140,11 @@ impl<'a, P: Prefix, T> OccupiedEntry<'a, P, T> {
     }
 
     /// Returns a mutable reference to the value that lives as long as the borrow of the map.
+    ///
+    /// # Examples
+    /// ```rust
+    /// *entry.into_mut() = 11;
+    /// ```
     pub fn into_mut(self) -> &'a mut T
     where
         P: Drop,
@@ -119,6 +157,13 @@ impl<'a, P: Prefix, T> OccupiedEntry<'a, P, T> {
     }
 
     /// Removes the entry, and returns its value. All nodes are kept. Does not allocate.
+    ///
+    /// # Examples
+    /// If the value is 11; `is_equal` compares:
+    ///
+    /// ```rust
+    /// is_equal(rt, entry.remove(), 11);
+    /// ```
     pub fn remove(self) -> T
     where
         P: Drop,
@@ -137,6 +182,14 @@ impl<'a, P: Prefix, T> VacantEntry<'a, P, T> {
     ghost use Rattle.prefix_trie.specs.Entry.{Vacant, entry_map, entry_key, entry_value, entry_lends_ok, IsStored};
 
     /// Returns the prefix that `entry` was called with.
+    ///
+    /// # Examples
+    /// In an empty map; `net` reads a network, `vacant` matches `Entry::Vacant`, and `is_text` compares a network with a text:
+    ///
+    /// ```rust
+    /// let entry = vacant(rt, map.entry(net(rt, "10.1.2.3/8")));
+    /// is_text(rt, *entry.key(), "10.1.2.3/8");
+    /// ```
     pub fn key(&self) -> &P
         ensures key { result.now ≡ entry_key (Vacant self.now) }
         ensures fits { IsTrue (P.fits result.now) }
@@ -167,7 +220,7 @@ impl<'a, P: Prefix, T> VacantEntry<'a, P, T> {
     /// Stores the value, and returns a mutable reference to it.
     ///
     /// # Errors
-    /// `Memory` as in `PrefixMap::insert`. The map is unchanged, and the value is returned.
+    /// - `Memory`: as in `PrefixMap::insert`. The map is unchanged, and the value is returned.
     pub fn insert(self, value: T) -> Result<&'a mut T, (Refused, T)>
     where
         P: Drop,
@@ -209,7 +262,7 @@ impl<'a, P: Prefix, T> VacantEntry<'a, P, T> {
     /// Stores the result of `f`, and returns a mutable reference to it. `f` is called once.
     ///
     /// # Errors
-    /// `Memory` as in `PrefixMap::insert`. The map is unchanged, and the value is returned.
+    /// - `Memory`: as in `PrefixMap::insert`. The map is unchanged, and the value is returned.
     pub fn insert_with<F: FnOnce() -> T>(self, f: F) -> Result<&'a mut T, (Refused, T)>
     where
         P: Drop,
@@ -227,7 +280,14 @@ impl<'a, P: Prefix, T> VacantEntry<'a, P, T> {
     /// Stores the default value, and returns a mutable reference to it.
     ///
     /// # Errors
-    /// `Memory` as in `PrefixMap::insert`. The map is unchanged, and the value is returned.
+    /// - `Memory`: as in `PrefixMap::insert`. The map is unchanged, and the value is returned.
+    ///
+    /// # Examples
+    /// If values are of type `u32`; `lent_is` compares the value:
+    ///
+    /// ```rust
+    /// lent_is(rt, entry.default(), 0);
+    /// ```
     pub fn default(self) -> Result<&'a mut T, (Refused, T)>
     where
         P: Drop,
@@ -247,6 +307,13 @@ impl<'a, P: Prefix, T> Entry<'a, P, T> {
     ghost use Rattle.prefix_trie.specs.Entry.{entry_map_ref, entry_map, entry_key, entry_value, entry_lends_ok, is_occupied, IsStored};
 
     /// Returns the key. If it is stored, its bits after the prefix are zero; else it is the prefix that `entry` was called with.
+    ///
+    /// # Examples
+    /// `entry` is that of 10.1.2.3/16, which is stored; `is_text` compares a network with a text:
+    ///
+    /// ```rust
+    /// is_text(rt, *entry.key(), "10.1.0.0/16");
+    /// ```
     pub fn key(&self) -> &P
         ensures key { result.now ≡ entry_key self.now }
         ensures fits { IsTrue (P.fits result.now) }
@@ -258,6 +325,13 @@ impl<'a, P: Prefix, T> Entry<'a, P, T> {
     }
 
     /// Returns the value if the key is stored.
+    ///
+    /// # Examples
+    /// If the value 7 is stored; `is_equal` compares:
+    ///
+    /// ```rust
+    /// is_equal(rt, entry.get().copied(), Some(7));
+    /// ```
     pub fn get(&self) -> Option<&T>
         ensures { option_copied result ≡ entry_value self.now }
     {
@@ -268,6 +342,14 @@ impl<'a, P: Prefix, T> Entry<'a, P, T> {
     }
 
     /// Returns a mutable reference to the value if the key is stored.
+    ///
+    /// # Examples
+    /// If a value is stored; `is_equal` compares:
+    ///
+    /// ```rust
+    /// *entry.get_mut().expect(rt, "a value") = 5;
+    /// is_equal(rt, entry.get().copied(), Some(5));
+    /// ```
     pub fn get_mut(&mut self) -> Option<&mut T>
         ensures { option_copied_mut result ≡ entry_value self.old }
     {
@@ -287,7 +369,17 @@ impl<'a, P: Prefix, T> Entry<'a, P, T> {
     /// Stores the value, and returns the old value. If the key is stored, it does not allocate and never fails. The entry keeps its key.
     ///
     /// # Errors
-    /// As in `PrefixMap::insert`. The map is unchanged, and the value is returned.
+    /// - `Memory`: as in `PrefixMap::insert`. The map is unchanged, and the value is returned.
+    ///
+    /// # Examples
+    /// In an empty map; `net` reads a network. `had_is` compares the old value, and `is_equal` two values:
+    ///
+    /// ```rust
+    /// let mut entry = map.entry(net(rt, "10.9.9.9/8"));
+    /// had_is(rt, entry.insert(3), None);
+    /// is_equal(rt, entry.get().copied(), Some(3));
+    /// had_is(rt, entry.insert(4), Some(3));
+    /// ```
     pub fn insert(&mut self, value: T) -> Result<Option<T>, (Refused, T)>
     where
         P: Drop,
@@ -308,6 +400,15 @@ impl<'a, P: Prefix, T> Entry<'a, P, T> {
     }
 
     /// Calls `f` on the value if the key is stored.
+    ///
+    /// # Examples
+    /// In a map with 10.0.0.0/8; `net` reads a network, and `is_equal` compares:
+    ///
+    /// ```rust
+    /// let entry = map.entry(net(rt, "10.0.0.0/8"));
+    /// let entry = entry.and_modify(|value| *value = 6);
+    /// is_equal(rt, entry.get().copied(), Some(6));
+    /// ```
     pub fn and_modify<F: FnOnce(&mut T)>(self, f: F) -> Entry<'a, P, T>
         requires { (p : MutBor T) → entry_value self ≡ Some p.now → F.pre f p }
         ensures same_map { (entry_map_ref result).ghost_name ≡ (entry_map_ref self.entry).ghost_name }
@@ -335,7 +436,14 @@ impl<'a, P: Prefix, T> Entry<'a, P, T> {
     /// Returns a mutable reference to the value; if there is none, stores `value` first.
     ///
     /// # Errors
-    /// If the key isn't stored, as in `VacantEntry::insert`.
+    /// - `Memory`: as in `VacantEntry::insert`, and only if the key isn't stored.
+    ///
+    /// # Examples
+    /// In a map with the value 5 at 10.0.0.0/8; `net` reads a network, and `lent_is` compares the value:
+    ///
+    /// ```rust
+    /// lent_is(rt, map.entry(net(rt, "10.0.0.0/8")).or_insert(9), 5);
+    /// ```
     pub fn or_insert(self, value: T) -> Result<&'a mut T, (Refused, T)>
     where
         P: Drop,
@@ -355,7 +463,15 @@ impl<'a, P: Prefix, T> Entry<'a, P, T> {
     /// Returns a mutable reference to the value; if there is none, stores the result of `f` first. `f` is called once, and only then.
     ///
     /// # Errors
-    /// If the key isn't stored, as in `VacantEntry::insert`.
+    /// - `Memory`: as in `VacantEntry::insert`, and only if the key isn't stored.
+    ///
+    /// # Examples
+    /// In a map without `host`, 10.1.2.3/32:
+    ///
+    /// ```rust
+    /// let value = *map.entry(host).or_insert_with(|| 3).expect(&rt, "memory");
+    /// assert_eq!(rt; value, 3);
+    /// ```
     pub fn or_insert_with<F: FnOnce() -> T>(self, f: F) -> Result<&'a mut T, (Refused, T)>
     where
         P: Drop,
@@ -376,7 +492,15 @@ impl<'a, P: Prefix, T> Entry<'a, P, T> {
     /// Returns a mutable reference to the value; if there is none, stores the default value first.
     ///
     /// # Errors
-    /// If the key isn't stored, as in `VacantEntry::insert`.
+    /// - `Memory`: as in `VacantEntry::insert`, and only if the key isn't stored.
+    ///
+    /// # Examples
+    /// If a value is stored; `lent_is` compares the value:
+    ///
+    /// ```rust
+    /// let entry = entry.and_modify(|value| *value = 6);
+    /// lent_is(rt, entry.or_default(), 6);
+    /// ```
     pub fn or_default(self) -> Result<&'a mut T, (Refused, T)>
     where
         P: Drop,

@@ -62,6 +62,13 @@ impl<P: Prefix, T> PrefixMap<P, T> {
     }
 
     /// Returns the entries whose keys the prefix contains, its own entry included.
+    ///
+    /// # Examples
+    /// In a map with the value 1 at `wide`, 10.0.0.0/8, and the value 2 at `inner`, 10.1.0.0/16:
+    ///
+    /// ```rust
+    /// assert_eq!(rt; map.children(&inner).next(), Some((inner, &2)));
+    /// ```
     #[tactic(auto, using(crate::proofs::KeyLengths::keys_where))]
     pub fn children(&self, prefix: &P) -> Iter<'_, P, T>
         requires { IsTrue (P.fits prefix.now) }
@@ -72,6 +79,13 @@ impl<P: Prefix, T> PrefixMap<P, T> {
 
     /// Returns the entries whose keys come after the prefix in the order of a walk. Keys inside the prefix come after it. If `inclusive`,
     /// the prefix's own entry is the first.
+    ///
+    /// # Examples
+    /// In a map with the value 1 at `wide`, 10.0.0.0/8, and the value 2 at `inner`, 10.1.0.0/16:
+    ///
+    /// ```rust
+    /// assert_eq!(rt; map.iter_from(&wide, false).next(), Some((inner, &2)));
+    /// ```
     #[tactic(auto, using(crate::proofs::KeyLengths::keys_where))]
     pub fn iter_from(&self, prefix: &P, inclusive: bool) -> Iter<'_, P, T>
         requires { IsTrue (P.fits prefix.now) }
@@ -81,6 +95,13 @@ impl<P: Prefix, T> PrefixMap<P, T> {
     }
 
     /// Returns all keys.
+    ///
+    /// # Examples
+    /// In a map with `wide`, 10.0.0.0/8, and 10.1.0.0/16:
+    ///
+    /// ```rust
+    /// assert_eq!(rt; map.keys().next(), Some(wide));
+    /// ```
     pub fn keys(&self) -> Keys<'_, P, T>
         ensures { result ≡ keys self.now.entries }
     {
@@ -88,6 +109,13 @@ impl<P: Prefix, T> PrefixMap<P, T> {
     }
 
     /// Returns all values, in the order of their keys.
+    ///
+    /// # Examples
+    /// In a map with the value 1 at 10.0.0.0/8, and the value 2 at 10.1.0.0/16:
+    ///
+    /// ```rust
+    /// assert_eq!(rt; map.values().next(), Some(&1));
+    /// ```
     pub fn values(&self) -> Values<'_, P, T>
         ensures { result ≡ values self.now.entries }
     {

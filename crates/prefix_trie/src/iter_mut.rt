@@ -99,6 +99,14 @@ impl<P: Prefix, T> PrefixMap<P, T> {
     }
 
     /// Returns mutable references to the values of the keys after a prefix, one at a time; its own value first if `inclusive`.
+    ///
+    /// # Examples
+    /// In a map with 10.0.0.0/8 as `first`, and the value 22 at `second`, 10.1.0.0/16; `lent_is` compares the value:
+    ///
+    /// ```rust
+    /// lent_is(&rt, map.iter_from_mut(&first, false).next(), 22);
+    /// lent_is(&rt, map.iter_from_mut(&second, true).next(), 22);
+    /// ```
     pub fn iter_from_mut(&mut self, prefix: &P, inclusive: bool) -> IterMut<'_, P, T>
         requires { IsTrue (P.fits prefix.now) }
         ensures same_map { (lent_map_ref result).ghost_name ≡ self.entry.ghost_name }
@@ -116,6 +124,14 @@ impl<P: Prefix, T> PrefixMap<P, T> {
     }
 
     /// Returns mutable references to the values of the keys that a prefix contains, itself included, one at a time.
+    ///
+    /// # Examples
+    /// In a map whose first value is 1, and that has no key inside 10.3.0.0/16; `lent_is` compares the value:
+    ///
+    /// ```rust
+    /// holds(&rt, map.children_mut(&(0x0a03_0000, 16)).next().is_none());
+    /// lent_is(&rt, map.children_mut(&(0, 0)).next(), 1);
+    /// ```
     pub fn children_mut(&mut self, prefix: &P) -> IterMut<'_, P, T>
         requires { IsTrue (P.fits prefix.now) }
         ensures same_map { (lent_map_ref result).ghost_name ≡ self.entry.ghost_name }

@@ -51,6 +51,16 @@ impl<P: Prefix, T> PrefixMap<P, T> {
 
     /// Returns the longest key that contains the prefix, possibly the prefix itself, and a mutable reference to its value. The contracts
     /// of `match_mut` and `get_lpm_value_mut` say what a write through this reference changes.
+    ///
+    /// # Examples
+    /// In a map with 10.0.0.0/8 and 10.1.0.0/16; `net` reads a network, and `is_text` compares one with a text:
+    ///
+    /// ```rust
+    /// let found = map.get_lpm_mut(&net(rt, "10.2.3.4/32"));
+    /// let (key, value) = found.expect(rt, "a match");
+    /// is_text(rt, key, "10.0.0.0/8");
+    /// *value = 7;
+    /// ```
     pub fn get_lpm_mut(&mut self, prefix: &P) -> Option<(P, &mut T)>
         requires { IsTrue (P.fits prefix.now) }
         ensures { MatchOption result (NoBeginning self.old.entries (P.bits prefix.now)) (λ r. IsLongestKey P.fits P.bits P.of_bits self.old.entries (P.bits prefix.now) r.0 r.1.now) }
@@ -62,6 +72,14 @@ impl<P: Prefix, T> PrefixMap<P, T> {
     }
 
     /// Returns a mutable reference to the value of the longest key that contains the prefix.
+    ///
+    /// # Examples
+    /// In a map with `inner`, 10.1.0.0/16; `host` is 10.1.2.3/32:
+    ///
+    /// ```rust
+    /// *map.get_lpm_value_mut(&host).expect(&rt, "a match") = 6;
+    /// assert_eq!(rt; map.get(&inner), Some(&6));
+    /// ```
     pub fn get_lpm_value_mut(&mut self, prefix: &P) -> Option<&mut T>
         requires { IsTrue (P.fits prefix.now) }
         ensures* writes_back { sem 𝓛 (lends_longest P.row T.row P.R.row ⟦<P as Prefix>⟧ ⟦<P::R as Key>⟧ self.entry (P.bits prefix.now) result) }

@@ -82,6 +82,13 @@ impl<P: Prefix, T> PrefixMap<P, T> {
     }
 
     /// Returns the number of entries.
+    ///
+    /// # Examples
+    /// In a map with 10.0.0.0/8 and 10.1.0.0/16:
+    ///
+    /// ```rust
+    /// assert_eq!(rt; map.len(), 2);
+    /// ```
     pub fn len(&self) -> usize
         ensures { result ≡ map.len self.now.entries }
     {
@@ -89,6 +96,12 @@ impl<P: Prefix, T> PrefixMap<P, T> {
     }
 
     /// Returns whether the map has no entry.
+    ///
+    /// # Examples
+    /// ```rust
+    /// map.clear();
+    /// assert!(rt; map.is_empty());
+    /// ```
     pub fn is_empty(&self) -> bool
         ensures { IsTrue result ↔ (self.now.entries ≡ map.empty) }
     {
@@ -97,6 +110,15 @@ impl<P: Prefix, T> PrefixMap<P, T> {
 
     /// Returns the number of nodes, the root included. A tidy map has the root, and one node for each distinct prefix of a key whose
     /// length is positive and divisible by five. Any other map has spare nodes too.
+    ///
+    /// # Examples
+    /// In a map with 10.0.0.0/8, and 10.1.0.0/16 as `inner`:
+    ///
+    /// ```rust
+    /// assert_eq!(rt; map.node_count(), 4);
+    /// assert_eq!(rt; map.remove_keep_tree(&inner), Some(2));
+    /// assert_eq!(rt; map.node_count(), 4);
+    /// ```
     pub fn node_count(&self) -> usize
         ensures all { result ≡ nodes self.now.entries + map.len self.now.spares }
         ensures idle { AreIdle self.now.entries self.now.spares }
@@ -122,6 +144,13 @@ impl<P: Prefix, T> PrefixMap<P, T> {
     }
 
     /// Returns whether exactly this key is stored.
+    ///
+    /// # Examples
+    /// In a map with `inner`, 10.1.0.0/16; `host` is 10.1.2.3/32:
+    ///
+    /// ```rust
+    /// assert!(rt; map.contains_key(&inner) && !map.contains_key(&host));
+    /// ```
     pub fn contains_key(&self, prefix: &P) -> bool
         requires { IsTrue (P.fits prefix.now) }
         ensures { IsTrue result ↔ IsSome (map.get self.now.entries (P.bits prefix.now)) }
@@ -130,6 +159,14 @@ impl<P: Prefix, T> PrefixMap<P, T> {
     }
 
     /// Returns the key, with zeros after the bits of the prefix, and its value.
+    ///
+    /// # Examples
+    /// In a map with the value 2 at `inner`, 10.1.0.0/16; `net` reads a network:
+    ///
+    /// ```rust
+    /// let same = net(&rt, "10.1.2.3/16");
+    /// assert_eq!(rt; map.get_key_value(&same), Some((inner, &2)));
+    /// ```
     pub fn get_key_value(&self, prefix: &P) -> Option<(P, &T)>
         requires { IsTrue (P.fits prefix.now) }
         ensures value { option_map (λ r. r.1.now) result ≡ map.get self.now.entries (P.bits prefix.now) }
@@ -163,6 +200,13 @@ impl<P: Prefix, T> PrefixMap<P, T> {
 
     /// Returns the length of the longest key that contains the prefix, possibly the prefix itself, and its value. The key is the prefix
     /// cut to this length; it isn't constructed.
+    ///
+    /// # Examples
+    /// In a map with the value 2 at 10.1.0.0/16; `host` is 10.1.2.3/32:
+    ///
+    /// ```rust
+    /// assert_eq!(rt; map.longest_match(&host), Some((16, &2)));
+    /// ```
     pub fn longest_match(&self, prefix: &P) -> Option<(u8, &T)>
         requires { IsTrue (P.fits prefix.now) }
         ensures { MatchOption result (NoBeginning self.now.entries (P.bits prefix.now)) (λ r. IsLongest self.now.entries (P.bits prefix.now) r.0 r.1.now) }
@@ -171,6 +215,13 @@ impl<P: Prefix, T> PrefixMap<P, T> {
     }
 
     /// Returns the longest key that contains the prefix.
+    ///
+    /// # Examples
+    /// In a map with `wide`, 10.0.0.0/8, and `inner`, 10.1.0.0/16; `host` is 10.1.2.3/32:
+    ///
+    /// ```rust
+    /// assert_eq!(rt; map.get_lpm_prefix(&host), Some(inner));
+    /// ```
     pub fn get_lpm_prefix(&self, prefix: &P) -> Option<P>
         requires { IsTrue (P.fits prefix.now) }
         ensures { MatchOption result (NoBeginning self.now.entries (P.bits prefix.now)) (λ k. (v : T) × IsLongestKey P.fits P.bits P.of_bits self.now.entries (P.bits prefix.now) k v) }
@@ -182,6 +233,13 @@ impl<P: Prefix, T> PrefixMap<P, T> {
     }
 
     /// Returns the shortest key that contains the prefix, possibly the prefix itself, and its value.
+    ///
+    /// # Examples
+    /// In a map with the value 1 at `wide`, 10.0.0.0/8, and with 10.1.0.0/16; `host` is 10.1.2.3/32:
+    ///
+    /// ```rust
+    /// assert_eq!(rt; map.get_spm(&host), Some((wide, &1)));
+    /// ```
     pub fn get_spm(&self, prefix: &P) -> Option<(P, &T)>
         requires { IsTrue (P.fits prefix.now) }
         ensures { MatchOption result (NoBeginning self.now.entries (P.bits prefix.now)) (λ r. IsShortestKey P.fits P.bits P.of_bits self.now.entries (P.bits prefix.now) r.0 r.1.now) }
@@ -193,6 +251,13 @@ impl<P: Prefix, T> PrefixMap<P, T> {
     }
 
     /// Returns the shortest key that contains the prefix.
+    ///
+    /// # Examples
+    /// In a map with `wide`, 10.0.0.0/8, and `inner`, 10.1.0.0/16; `host` is 10.1.2.3/32:
+    ///
+    /// ```rust
+    /// assert_eq!(rt; map.get_spm_prefix(&host), Some(wide));
+    /// ```
     pub fn get_spm_prefix(&self, prefix: &P) -> Option<P>
         requires { IsTrue (P.fits prefix.now) }
         ensures { MatchOption result (NoBeginning self.now.entries (P.bits prefix.now)) (λ k. (v : T) × IsShortestKey P.fits P.bits P.of_bits self.now.entries (P.bits prefix.now) k v) }
@@ -204,6 +269,13 @@ impl<P: Prefix, T> PrefixMap<P, T> {
     }
 
     /// Returns whether a key contains the prefix.
+    ///
+    /// # Examples
+    /// In a map with 10.0.0.0/8; `host` is 10.1.2.3/32, and `other` is 11.0.0.0/8:
+    ///
+    /// ```rust
+    /// assert!(rt; map.is_covered(&host) && !map.is_covered(&other));
+    /// ```
     pub fn is_covered(&self, prefix: &P) -> bool
         requires { IsTrue (P.fits prefix.now) }
         ensures { IsTrue result ↔ (NoBeginning self.now.entries (P.bits prefix.now) → ⊥) }
@@ -213,6 +285,13 @@ impl<P: Prefix, T> PrefixMap<P, T> {
 
     /// Returns whether no other key is inside the prefix, and no spare node. The prefix need not be stored. Takes one search, and does not
     /// allocate.
+    ///
+    /// # Examples
+    /// In a map with just `wide`, 10.0.0.0/8, and `inner`, 10.1.0.0/16:
+    ///
+    /// ```rust
+    /// assert!(rt; map.is_leaf(&inner) && !map.is_leaf(&wide));
+    /// ```
     pub fn is_leaf(&self, prefix: &P) -> bool
         requires { IsTrue (P.fits prefix.now) }
         ensures all { IsTrue result ↔ (NothingInside self.now.entries (P.bits prefix.now) × NothingInside self.now.spares (P.bits prefix.now)) }
@@ -237,6 +316,14 @@ impl<P: Prefix, T> PrefixMap<P, T> {
     }
 
     /// Returns a mutable reference to the value at exactly this key.
+    ///
+    /// # Examples
+    /// In a map with `inner`:
+    ///
+    /// ```rust
+    /// *map.get_mut(&inner).expect(&rt, "a value") = 5;
+    /// assert_eq!(rt; map.get(&inner), Some(&5));
+    /// ```
     pub fn get_mut(&mut self, prefix: &P) -> Option<&mut T>
         requires { IsTrue (P.fits prefix.now) }
         ensures* writes_back { sem 𝓛 (lends_get P.row T.row P.R.row ⟦<P as Prefix>⟧ ⟦<P::R as Key>⟧ self.entry (P.bits prefix.now) result) }
@@ -264,7 +351,7 @@ impl<P: Prefix + Drop, T: Drop> PrefixMap<P, T> {
     /// Stores the value at the key, and returns the old value. If the key is stored, it does not allocate and never fails.
     ///
     /// # Errors
-    /// `Memory` if an allocation fails, or if one more entry or node can't be counted. The map is unchanged, and the value is returned.
+    /// - `Memory`: an allocation fails, or one more entry or node can't be counted. The map is unchanged, and the value is returned.
     ///
     /// # Examples
     /// ```rust
@@ -293,7 +380,7 @@ impl<P: Prefix + Drop, T: Drop> PrefixMap<P, T> {
     /// but without its search.
     ///
     /// # Errors
-    /// As in `insert`.
+    /// - `Memory`: as in `insert`.
     pub fn insert_is_leaf(&mut self, prefix: P, value: T) -> Result<(Option<T>, bool), (Refused, T)>
         requires { IsTrue (P.fits prefix) }
         ensures old { IfOk result (λ r. r.0 ≡ map.get self.old.entries (P.bits prefix)) }
@@ -348,6 +435,16 @@ impl<P: Prefix + Drop, T: Drop> PrefixMap<P, T> {
     }
 
     /// Removes the entry, and returns its value. All nodes are kept. Does not allocate.
+    ///
+    /// # Examples
+    /// In a map with 10.0.0.0/8, and with the value 2 at `inner`, 10.1.0.0/16:
+    ///
+    /// ```rust
+    /// assert_eq!(rt; map.remove_keep_tree(&inner), Some(2));
+    /// assert_eq!(rt; map.node_count(), 4);
+    /// assert_eq!(rt; map.remove(&inner), None);
+    /// assert_eq!(rt; map.node_count(), 2);
+    /// ```
     pub fn remove_keep_tree(&mut self, prefix: &P) -> Option<T>
         requires { IsTrue (P.fits prefix.now) }
         ensures value { result ≡ map.get self.old.entries (P.bits prefix.now) }

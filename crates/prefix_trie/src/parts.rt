@@ -77,6 +77,17 @@ impl<P: Prefix, T, W: BorrowedWalk<T>, S: Part<P, T, W>> Clone for Parts<P, T, W
     ghost is_infallible = { λ _. ⊤ };
 
     /// A copy of the iterator from its current position. Does not allocate.
+    ///
+    /// # Examples
+    /// `digits` reads the rest of a walk:
+    ///
+    /// ```rust
+    /// let mut entries = map.into_iter();
+    /// is_equal(rt, entries.next().is_some(), true);
+    /// let copy = entries.clone().expect(rt, "a copy");
+    /// is_equal(rt, digits(copy), wanted);
+    /// is_equal(rt, digits(entries), wanted);
+    /// ```
     fn clone(&self) -> Result<Parts<P, T, W, S>, AllocError> {
         Ok(Parts {
             walk: self.walk.clone()?,

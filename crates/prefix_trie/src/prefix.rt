@@ -11,8 +11,48 @@ use ipnet_addr::key::Key;
 use ipnet_addr::number::Number;
 use trie_core::Path;
 
-/// A key and a length, as in the Rust crate prefix-trie 0.10.1: the first `prefix_len` bits of the key are the prefix.
+/// A prefix: a bit pattern and a length, as in the Rust crate prefix-trie 0.10.1.
+///
+/// `repr` returns the bit pattern as an unsigned number, the key. The prefix is its first `prefix_len` bits, most significant first. The
+/// key may have ones after them, and searches ignore these. `mask` returns the key with zeros in their place.
+///
+/// A map stores only the bits of a prefix. It makes the prefixes that it returns by `from_repr_len`, with zeros after these bits.
+///
+/// `(R, u8)` for each `Key` R, `Ipv4Net` and `Ipv6Net` are such types. For a type of your own, write `repr`, `prefix_len` and
+/// `from_repr_len`, and prove their clauses. The other calls follow from these. The clauses cite three functions that you define:
+///
+/// - `bits`: the bits of the prefix.
+/// - `of_bits`: the prefix with these bits, and zeros after them.
+/// - `fits`: whether the length is at most the number of bits of a key. Calls require this of each prefix. If your type allows no other
+///   length, let `fits` return `true`.
+///
+/// The crate `embedder` implements the trait for its struct `Region`, a `label` of 16 bits and a `len`:
+///
+/// ```
+/// impl Prefix for Region {
+///     type R = u16;
+///
+///     ghost bits = { λ p. prefix_bits 16 p.label p.len };
+///
+///     ghost of_bits = { λ s. record { label = number_from 16 s; len = length s } };
+///
+///     ghost fits = { λ p. nat_le p.len 16 };
+///
+///     fn repr(&self) -> u16 {
+///         self.label
+///     }
+///
+///     fn prefix_len(&self) -> u8 {
+///         self.len
+///     }
+///
+///     fn from_repr_len(repr: u16, len: u8) -> Region {
+///         Region { label: repr, len }
+///     }
+/// }
+/// ```
 pub trait Prefix {
+    /// The type of the key. Its most significant bit is the first bit of a prefix.
     type R: Key;
 
     /// The bits of the prefix, most significant first.
@@ -25,16 +65,37 @@ pub trait Prefix {
     ghost fits: { Self → Bool };
 
     /// Returns the key.
+    ///
+    /// # Examples
+    /// `prefix` is `(0x0a01_0203_u32, 16)`, for 10.1.2.3/16:
+    ///
+    /// ```rust
+    /// assert_eq!(rt; prefix.repr(), 0x0a01_0203);
+    /// ```
     fn repr(&self) -> Self::R
         requires { IsTrue (fits self.now) }
         ensures { prefix_bits Self.R.width (Self.R.number result) (length (bits self.now)) ≡ bits self.now };
 
     /// Returns the length of the prefix, in bits.
+    ///
+    /// # Examples
+    /// `prefix` is `(0x0a01_0203_u32, 16)`, for 10.1.2.3/16:
+    ///
+    /// ```rust
+    /// assert_eq!(rt; prefix.prefix_len(), 16);
+    /// ```
     fn prefix_len(&self) -> u8
         ensures value { result ≡ length (bits self.now) }
         ensures within { IsTrue (fits self.now) → result ≤ Self.R.width };
 
     /// Makes the prefix of the first `len` bits of a key.
+    ///
+    /// # Examples
+    /// `prefix` is `(0x0a01_0203_u32, 16)`, for 10.1.2.3/16:
+    ///
+    /// ```rust
+    /// assert_eq!(rt; <(u32, u8)>::from_repr_len(0x0a01_0203, 16), prefix);
+    /// ```
     fn from_repr_len(repr: Self::R, len: u8) -> Self
         requires { len ≤ Self.R.width }
         ensures fits { IsTrue (fits result) }
@@ -42,6 +103,11 @@ pub trait Prefix {
         ensures masked { IsMasked Self.R.width (Self.R.number repr) len → result ≡ of_bits (prefix_bits Self.R.width (Self.R.number repr) len) };
 
     /// Returns the number of bits of a key.
+    ///
+    /// # Examples
+    /// ```rust
+    /// assert_eq!(rt; <(u32, u8)>::num_bits(), 32);
+    /// ```
     fn num_bits() -> u32
         ensures { result ≡ Self.R.width }
     {
@@ -49,6 +115,13 @@ pub trait Prefix {
     }
 
     /// Returns the key with zeros after the bits of the prefix.
+    ///
+    /// # Examples
+    /// `prefix` is `(0x0a01_0203_u32, 16)`, for 10.1.2.3/16:
+    ///
+    /// ```rust
+    /// assert_eq!(rt; prefix.mask(), 0x0a01_0000);
+    /// ```
     fn mask(&self) -> Self::R
         requires { IsTrue (fits self.now) }
         ensures number { Self.R.number result ≡ number_from Self.R.width (bits self.now) }
@@ -57,6 +130,13 @@ pub trait Prefix {
     }
 
     /// Returns whether the other's bits begin with the bits of `self`.
+    ///
+    /// # Examples
+    /// `prefix` is `(0x0a01_0203_u32, 16)`, for 10.1.2.3/16:
+    ///
+    /// ```rust
+    /// assert!(rt; prefix.contains(&(0x0a01_0909, 32)) && !prefix.contains(&(0x0a00_0000, 8)));
+    /// ```
     fn contains(&self, other: &Self) -> bool
         requires fits { IsTrue (fits self.now) }
         requires other_fits { IsTrue (fits other.now) }
@@ -84,6 +164,13 @@ fn masked_key<R: Key>(key: R, len: u8) -> R
 }
 
 /// Returns the prefix of the first `len` bits, with zeros after them.
+///
+/// # Examples
+/// `prefix` is `(0x0a01_0203_u32, 16)`, for 10.1.2.3/16:
+///
+/// ```rust
+/// assert_eq!(rt; truncated(&prefix, 8), (0x0a00_0000, 8));
+/// ```
 #[inline]
 pub fn truncated<P: Prefix>(prefix: &P, len: u8) -> P
     requires fits { IsTrue (P.fits prefix.now) }
@@ -97,6 +184,14 @@ pub fn truncated<P: Prefix>(prefix: &P, len: u8) -> P
 }
 
 /// Returns the path of a prefix.
+///
+/// # Examples
+/// `is_equal` compares:
+///
+/// ```rust
+/// let path: Path = path_of(&(0x9b_u8, 8));
+/// is_equal(&rt, path.len(), 8);
+/// ```
 #[inline]
 pub fn path_of<P: Prefix>(prefix: &P) -> Path
     requires { IsTrue (P.fits prefix.now) }

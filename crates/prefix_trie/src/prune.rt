@@ -10,6 +10,12 @@ use crate::prefix::{Prefix, path_of};
 
 impl<P: Prefix + Drop, T: Drop> PrefixMap<P, T> {
     /// Removes all entries, and all nodes but the root. Does not allocate.
+    ///
+    /// # Examples
+    /// ```rust
+    /// map.clear();
+    /// assert!(rt; map.is_empty());
+    /// ```
     pub fn clear(&mut self)
         ensures map { self.new.entries ≡ map.empty }
         ensures tidy { self.new.spares ≡ map.empty }
@@ -22,6 +28,14 @@ impl<P: Prefix + Drop, T: Drop> PrefixMap<P, T> {
     /// Removes every entry whose key the prefix contains, its own entry included. Then the last node on the path of the prefix, and each
     /// node above it, is removed while it has neither values nor children and isn't the root. A prefix of length 0 clears the map. Does
     /// not allocate.
+    ///
+    /// # Examples
+    /// In a map with 10.0.0.0/8, and `inner`, 10.1.0.0/16:
+    ///
+    /// ```rust
+    /// map.remove_children(&inner);
+    /// assert_eq!(rt; map.len(), 1);
+    /// ```
     pub fn remove_children(&mut self, prefix: &P)
         requires { IsTrue (P.fits prefix.now) }
         ensures map { self.new.entries ≡ outside self.old.entries (P.bits prefix.now) }

@@ -6,6 +6,13 @@ use std::alloc::AllocError;
 use thiserror::Error;
 
 /// Why a value could not be stored.
+///
+/// # Examples
+/// `is_printed` compares the text of a refusal:
+///
+/// ```rust
+/// is_printed(&rt, rt.alloc(), Refused::Memory, "out of memory");
+/// ```
 #[derive(Clone, Copy, Debug, Drop, PartialEq, Eq, Error)]
 pub enum Refused {
     /// An allocation failed, or no more entries or nodes can be counted.

@@ -11,6 +11,14 @@ use trie_core::Path;
 impl<P: Prefix + Drop, T: Drop> PrefixMap<P, T> {
     /// Calls `f` on each entry once, in the order of a walk, and keeps the entries for which `f` returns `true`. `f` need not accept other
     /// entries. Afterwards the map is tidy, even if it wasn't before. Does not allocate.
+    ///
+    /// # Examples
+    /// In a map with the values 1 and 2:
+    ///
+    /// ```rust
+    /// map.retain(|_, value| *value > 1);
+    /// assert_eq!(rt; map.len(), 1);
+    /// ```
     pub fn retain<F: FnMut(&P, &T) -> bool>(&mut self, f: F)
         requires { CallableInTurn (AnswersAt F.FnMut P.fits P.bits P.of_bits) (TakesAt F.FnMut P.fits P.bits P.of_bits) f (entries self.old.entries) }
         ensures kept { IsFiltered (AnswersAt F.FnMut P.fits P.bits P.of_bits) f (entries self.old.entries) (entries self.new.entries) }

@@ -69,6 +69,13 @@ impl<P: Prefix> PrefixSet<P> {
     }
 
     /// Returns the number of members.
+    ///
+    /// # Examples
+    /// In a set with two members:
+    ///
+    /// ```rust
+    /// assert_eq!(rt; set.len(), 2);
+    /// ```
     pub fn len(&self) -> usize
         ensures { result ≡ fin.len self.now.entries }
     {
@@ -76,6 +83,12 @@ impl<P: Prefix> PrefixSet<P> {
     }
 
     /// Returns whether the set has no member.
+    ///
+    /// # Examples
+    /// ```rust
+    /// set.clear();
+    /// assert!(rt; set.is_empty());
+    /// ```
     pub fn is_empty(&self) -> bool
         ensures { IsTrue result ↔ (self.now.entries ≡ fin.empty) }
     {
@@ -92,6 +105,16 @@ impl<P: Prefix> PrefixSet<P> {
     }
 
     /// Returns the number of addresses that the members cover, each counted once, or `None` if all are covered. Does not allocate.
+    ///
+    /// # Examples
+    /// `halves` is an empty set of `(u128, u8)`, and `is_equal` compares:
+    ///
+    /// ```rust
+    /// holds(&rt, halves.insert((0, 1)).is_ok());
+    /// is_equal(&rt, halves.address_count(), Some(1 << 127));
+    /// holds(&rt, halves.insert((1 << 127, 1)).is_ok());
+    /// is_equal(&rt, halves.address_count(), None);
+    /// ```
     pub fn address_count(&self) -> Option<P::R>
     where
         P: Drop,
@@ -103,7 +126,15 @@ impl<P: Prefix> PrefixSet<P> {
     /// Returns an equal set with as many nodes.
     ///
     /// # Errors
-    /// `Memory` if an allocation fails. All that was copied is dropped.
+    /// - `Memory`: an allocation fails. All that was copied is dropped.
+    ///
+    /// # Examples
+    /// `is_copy` checks that `copy == set`:
+    ///
+    /// ```rust
+    /// let copy = set.try_clone(rt.alloc()).expect(&rt, "a copy");
+    /// is_copy(&rt, &set, &copy);
+    /// ```
     pub fn try_clone(&self, alloc: Global) -> Result<PrefixSet<P>, Refused>
         ensures same { IfOk result (λ s. s ≡ self.now) }
         ensures memory { IfErr result (λ e. e ≡ Memory) }
@@ -114,6 +145,13 @@ impl<P: Prefix> PrefixSet<P> {
     }
 
     /// Returns whether exactly this prefix is a member.
+    ///
+    /// # Examples
+    /// In a set of 10.1.0.0/16 and 10.0.0.0/8; `host` is 10.1.2.3/32:
+    ///
+    /// ```rust
+    /// assert!(rt; set.contains(&(0x0a01_0203, 16)) && !set.contains(&host));
+    /// ```
     pub fn contains(&self, prefix: &P) -> bool
         requires { IsTrue (P.fits prefix.now) }
         ensures { result ≡ fin.contains_key self.now.entries (P.bits prefix.now) }
@@ -156,6 +194,13 @@ impl<P: Prefix> PrefixSet<P> {
     }
 
     /// Returns the shortest member that contains the prefix, possibly the prefix itself.
+    ///
+    /// # Examples
+    /// In a set of 10.1.0.0/16, and `wide`, 10.0.0.0/8; `host` is 10.1.2.3/32:
+    ///
+    /// ```rust
+    /// assert_eq!(rt; set.get_spm(&host), Some(wide));
+    /// ```
     pub fn get_spm(&self, prefix: &P) -> Option<P>
         requires { IsTrue (P.fits prefix.now) }
         ensures { MatchOption result (NoBeginning self.now.entries (P.bits prefix.now)) (λ k. IsShortestKey P.fits P.bits P.of_bits self.now.entries (P.bits prefix.now) k tt) }
@@ -164,6 +209,13 @@ impl<P: Prefix> PrefixSet<P> {
     }
 
     /// Returns whether a member contains the prefix.
+    ///
+    /// # Examples
+    /// In a set of 10.1.0.0/16 and 10.0.0.0/8; `host` is 10.1.2.3/32:
+    ///
+    /// ```rust
+    /// assert!(rt; set.is_covered(&host) && !set.is_covered(&(0x0b00_0000, 8)));
+    /// ```
     pub fn is_covered(&self, prefix: &P) -> bool
         requires { IsTrue (P.fits prefix.now) }
         ensures { IsTrue result ↔ (NoBeginning self.now.entries (P.bits prefix.now) → ⊥) }
@@ -190,6 +242,13 @@ impl<P: Prefix> PrefixSet<P> {
 
     /// Returns the members that come after the prefix in the order of a walk. Members inside the prefix come after it. If `inclusive`, the
     /// prefix itself is the first if it is a member.
+    ///
+    /// # Examples
+    /// In a set of `inner`, 10.1.0.0/16, and `wide`, 10.0.0.0/8:
+    ///
+    /// ```rust
+    /// assert_eq!(rt; set.iter_from(&wide, false).next(), Some(inner));
+    /// ```
     pub fn iter_from(&self, prefix: &P, inclusive: bool) -> Iter<'_, P>
         requires { IsTrue (P.fits prefix.now) }
         ensures { result ≡ map (λ e. e.0) (where_key bits_cmp (is_from (P.bits prefix.now) inclusive) (fin.entries self.now.entries)) }
@@ -198,6 +257,13 @@ impl<P: Prefix> PrefixSet<P> {
     }
 
     /// Returns the members that the prefix contains, itself included.
+    ///
+    /// # Examples
+    /// In a set of `inner`, 10.1.0.0/16, and `wide`, 10.0.0.0/8:
+    ///
+    /// ```rust
+    /// assert_eq!(rt; set.children(&inner).next(), Some(inner));
+    /// ```
     pub fn children(&self, prefix: &P) -> Iter<'_, P>
         requires { IsTrue (P.fits prefix.now) }
         ensures { result ≡ map (λ e. e.0) (where_key bits_cmp (begins (P.bits prefix.now)) (fin.entries self.now.entries)) }
@@ -206,6 +272,13 @@ impl<P: Prefix> PrefixSet<P> {
     }
 
     /// Returns the members that contain the prefix, itself included, shortest first.
+    ///
+    /// # Examples
+    /// In a set of `inner`, 10.1.0.0/16, and `wide`, 10.0.0.0/8:
+    ///
+    /// ```rust
+    /// assert_eq!(rt; set.cover(&(0x0a01_0203, 32)).next(), Some(wide));
+    /// ```
     pub fn cover(&self, prefix: &P) -> CoverKeys<'_, P, ()>
         requires { IsTrue (P.fits prefix.now) }
         ensures { result ≡ map (λ e. e.0) (where_key bits_cmp (λ k. begins k (P.bits prefix.now)) (fin.entries self.now.entries)) }
@@ -218,7 +291,14 @@ impl<P: Prefix + Drop> PrefixSet<P> {
     /// Makes the set of these prefixes. It is tidy.
     ///
     /// # Errors
-    /// `Memory` if a prefix can't be inserted, as in `insert`. All that was stored is dropped.
+    /// - `Memory`: a prefix can't be inserted, as in `insert`. All that was stored is dropped.
+    ///
+    /// # Examples
+    /// `members` is an array of prefixes:
+    ///
+    /// ```rust
+    /// PrefixSet::try_from_iter(alloc, Vec::from_array(alloc, members).expect(rt, "members"))
+    /// ```
     pub fn try_from_iter<U: IntoIterator<Item = P>>(
         alloc: Global,
         items: U,
@@ -239,7 +319,7 @@ impl<P: Prefix + Drop> PrefixSet<P> {
     /// Inserts the prefix, and returns whether it is new. If it is a member, it does not allocate and never fails.
     ///
     /// # Errors
-    /// `Memory` as in `PrefixMap::insert`. The set is unchanged.
+    /// - `Memory`: as in `PrefixMap::insert`. The set is unchanged.
     ///
     /// # Examples
     /// ```rust
@@ -293,6 +373,12 @@ impl<P: Prefix + Drop> PrefixSet<P> {
     }
 
     /// Removes all members. Does not allocate.
+    ///
+    /// # Examples
+    /// ```rust
+    /// set.clear();
+    /// assert!(rt; set.is_empty());
+    /// ```
     pub fn clear(&mut self)
         ensures set { self.new.entries ≡ fin.empty }
         ensures tidy { self.new.spares ≡ fin.empty }
@@ -302,6 +388,14 @@ impl<P: Prefix + Drop> PrefixSet<P> {
 
     /// Removes every member that the prefix contains, itself included. Nodes are removed as in `PrefixMap::remove_children`. Does not
     /// allocate.
+    ///
+    /// # Examples
+    /// In a set of 10.1.0.0/16 and 10.0.0.0/8:
+    ///
+    /// ```rust
+    /// set.remove_children(&(0x0a01_0000, 16));
+    /// assert_eq!(rt; set.len(), 1);
+    /// ```
     pub fn remove_children(&mut self, prefix: &P)
         requires { IsTrue (P.fits prefix.now) }
         ensures set { self.new.entries ≡ outside self.old.entries (P.bits prefix.now) }
@@ -315,6 +409,14 @@ impl<P: Prefix + Drop> PrefixSet<P> {
 
     /// Calls `f` on each member once, in the order of a walk, and keeps the members for which `f` returns `true`. `f` need not accept
     /// other prefixes. Afterwards the set is tidy, even if it wasn't before. Does not allocate.
+    ///
+    /// # Examples
+    /// In a set of 10.1.0.0/16 and 10.0.0.0/8:
+    ///
+    /// ```rust
+    /// set.retain(|member| member.1 > 8);
+    /// assert_eq!(rt; set.len(), 1);
+    /// ```
     pub fn retain<F: FnMut(&P) -> bool>(&mut self, f: F)
         requires { CallableInTurn (AnswersAtMember F.FnMut P.fits P.bits P.of_bits) (TakesMember F.FnMut P.fits P.bits P.of_bits) f (fin.keys self.old.entries) }
         ensures kept { IsFiltered (AnswersAtMember F.FnMut P.fits P.bits P.of_bits) f (fin.keys self.old.entries) (fin.keys self.new.entries) }
@@ -370,6 +472,16 @@ impl<P: Prefix> IntoIterator for PrefixSet<P> {
     ghost into_iter_gives = { λ s r. r ≡ fin.keys s.entries };
 
     /// Returns all members, owned.
+    ///
+    /// # Examples
+    /// `set` has members of type `(u32, u8)`. This makes a number of the second bytes of their keys:
+    ///
+    /// ```rust
+    /// let mut digits = 1u32;
+    /// for (number, _) in set {
+    ///     digits = digits.wrapping_mul(10).wrapping_add((number >> 16) % 256);
+    /// }
+    /// ```
     fn into_iter(self) -> IntoIter<P> {
         self.members.into_keys()
     }

@@ -29,6 +29,16 @@ fn found(rt: HostRuntime) {
 }
 
 #[test]
+fn contained(rt: HostRuntime) {
+    let set = two_members(&rt, rt.alloc());
+    let wide = (0x0a00_0000, 8);
+    let host = (0x0a01_0203, 32);
+    assert!(rt; set.contains(&(0x0a01_0203, 16)) && !set.contains(&host));
+    assert!(rt; set.is_covered(&host) && !set.is_covered(&(0x0b00_0000, 8)));
+    assert_eq!(rt; set.get_spm(&host), Some(wide));
+}
+
+#[test]
 fn walked(rt: HostRuntime) {
     let set = two_members(&rt, rt.alloc());
     let (inner, wide) = ((0x0a01_0000, 16), (0x0a00_0000, 8));
@@ -44,4 +54,35 @@ fn taken_out(rt: HostRuntime) {
     let wide = (0x0a00_0000, 8);
     assert!(rt; set.remove(&wide));
     assert!(rt; !set.remove(&wide));
+}
+
+#[test]
+fn walked_in_part(rt: HostRuntime) {
+    let set = two_members(&rt, rt.alloc());
+    let (inner, wide) = ((0x0a01_0000, 16), (0x0a00_0000, 8));
+    assert_eq!(rt; set.children(&inner).next(), Some(inner));
+    assert_eq!(rt; set.iter_from(&wide, false).next(), Some(inner));
+    assert_eq!(rt; set.cover(&(0x0a01_0203, 32)).next(), Some(wide));
+}
+
+#[test]
+fn counted(rt: HostRuntime) {
+    let mut set = two_members(&rt, rt.alloc());
+    assert_eq!(rt; set.len(), 2);
+    set.clear();
+    assert!(rt; set.is_empty());
+}
+
+#[test]
+fn taken_out_inside(rt: HostRuntime) {
+    let mut set = two_members(&rt, rt.alloc());
+    set.remove_children(&(0x0a01_0000, 16));
+    assert_eq!(rt; set.len(), 1);
+}
+
+#[test]
+fn kept_if_asked(rt: HostRuntime) {
+    let mut set = two_members(&rt, rt.alloc());
+    set.retain(|member| member.1 > 8);
+    assert_eq!(rt; set.len(), 1);
 }

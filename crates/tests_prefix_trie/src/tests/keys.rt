@@ -75,6 +75,19 @@ fn beginnings(rt: HostRuntime) {
     assert_eq!(rt; wide_net(&rt, "8000::1/1").mask(), 1 << 127);
 }
 
+/// The calls of a prefix, as their comments show them.
+#[test]
+fn first_calls(rt: HostRuntime) {
+    let prefix = (0x0a01_0203_u32, 16);
+    assert_eq!(rt; prefix.repr(), 0x0a01_0203);
+    assert_eq!(rt; prefix.prefix_len(), 16);
+    assert_eq!(rt; prefix.mask(), 0x0a01_0000);
+    assert!(rt; prefix.contains(&(0x0a01_0909, 32)) && !prefix.contains(&(0x0a00_0000, 8)));
+    assert_eq!(rt; <(u32, u8)>::num_bits(), 32);
+    assert_eq!(rt; <(u32, u8)>::from_repr_len(0x0a01_0203, 16), prefix);
+    assert_eq!(rt; truncated(&prefix, 8), (0x0a00_0000, 8));
+}
+
 /// The bits are 10011, which is 19, and then 011. The place of 011 is after those of the empty string, 0, 00 to 0011, and 01 to 0101.
 #[test]
 fn paths(rt: HostRuntime) {
