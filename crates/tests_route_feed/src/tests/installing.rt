@@ -1,6 +1,6 @@
 //! An installer with hundreds of changes, and single lines for a table.
 use crate::tests::rows::{row_is, text_is};
-use crate::tests::runs::{Mode, gives};
+use crate::tests::runs::{Mode, gives, installed};
 use route_feed::{Counted, lead_line};
 use route_table::RouteTable;
 use std::alloc::Global;
@@ -16,6 +16,19 @@ fn lines(rt: &impl Abort, alloc: Global, first: &str, word: &str, count: u16) ->
     }
     text.push_str("ok\n").expect(rt, "memory");
     text
+}
+
+/// A route that is installed already gets another hop.
+#[test]
+fn in_memory(rt: HostRuntime) {
+    let input = b"have 10.0.0.0/8 1\nset 10.0.0.0/8 2\nok\nsync\n";
+    let out = installed(rt.alloc(), input).expect(&rt, "a run");
+    text_is(
+        &rt,
+        "in memory",
+        out.as_slice(),
+        "install 10.0.0.0/8 2\nok\n",
+    );
 }
 
 /// Up to 256 changes are carried out one by one.
