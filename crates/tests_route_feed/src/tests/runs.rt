@@ -74,14 +74,6 @@ pub(crate) fn followed(alloc: Global, input: &[u8]) -> Result<Vec<u8>, RunError>
     Ok(writer.into_inner())
 }
 
-/// `install` over memory.
-pub(crate) fn installed(alloc: Global, input: &[u8]) -> Result<Vec<u8>, RunError> {
-    let mut reader = Counted::new(input);
-    let mut writer = Counted::new(Vec::new(alloc));
-    install(alloc, &mut reader, &mut writer)?;
-    Ok(writer.into_inner())
-}
-
 /// `shorten` over memory, with the clause that a caller can prove.
 pub(crate) fn shortened(alloc: Global, input: &[u8]) -> Result<Vec<u8>, RunError>
     ensures { IfOk result (λ out. (routes : List Route) × IsLeastFor input.now routes × (out.items ≡ add_lines routes)) }
