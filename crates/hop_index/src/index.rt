@@ -136,7 +136,7 @@ impl HopIndex {
     /// Returns the hop of an address. Does not allocate.
     ///
     /// # Examples
-    /// If 10.0.0.0/9 has the hop 2, and 11.0.0.0/8 none:
+    /// If 10.0.0.0/9 has the hop 2, 11.0.0.0/8 none, and `address` parses a text:
     ///
     /// ```rust
     /// assert_eq!(rt; index.hop(address(&rt, "10.1.2.3")), Some(2));
@@ -156,7 +156,7 @@ impl HopIndex {
     /// Stores the hops of the addresses in `hops`, in the same order; both slices must have the same length. Does not allocate.
     ///
     /// # Examples
-    /// If 10.0.0.0/9 has the hop 2, and 11.0.0.0/8 none:
+    /// If 10.0.0.0/9 has the hop 2, 11.0.0.0/8 none, and `address` parses a text:
     ///
     /// ```rust
     /// let addrs = [address(&rt, "10.1.2.3"), address(&rt, "11.0.0.1")];

@@ -28,7 +28,19 @@ use std::io::Write;
 /// is the one after the line.
 ///
 /// # Examples
-/// Lines for an empty table, one after another, and the replies:
+/// The reply to `line`, in memory; `row_is` compares its last two arguments:
+///
+/// ```rust
+/// let mut writer = Counted::new(Vec::new(alloc));
+/// row_is(
+///     rt,
+///     line,
+///     lead_line(table, line.as_bytes(), &mut writer),
+///     Ok(()),
+/// );
+/// ```
+///
+/// Lines for a table that is empty at first, and the replies:
 ///
 /// ```rust
 /// ("add 10.0.0.0/8 1", "set 10.0.0.0/8 1\nok\n"),

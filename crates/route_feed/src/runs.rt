@@ -41,15 +41,6 @@ use std::io::{Read, Write};
 /// It never fails with `Line`.
 ///
 /// # Examples
-/// An input, and its output:
-///
-/// ```rust
-/// (
-///     "add 10.0.0.0/8 1\nadd 10.0.0.0/9 2\ndel 10.0.0.0/8 1\n",
-///     "set 10.0.0.0/8 1\nok\nset 10.0.0.0/9 2\nok\nunset 10.128.0.0/9\nok\n",
-/// ),
-/// ```
-///
 /// The bytes `input`, in a function that returns the output:
 ///
 /// ```rust
@@ -57,6 +48,15 @@ use std::io::{Read, Write};
 /// let mut writer = Counted::new(Vec::new(alloc));
 /// lead(alloc, &mut reader, &mut writer)?;
 /// Ok(writer.into_inner())
+/// ```
+///
+/// An input, and its output:
+///
+/// ```rust
+/// (
+///     "add 10.0.0.0/8 1\nadd 10.0.0.0/9 2\ndel 10.0.0.0/8 1\n",
+///     "set 10.0.0.0/8 1\nok\nset 10.0.0.0/9 2\nok\nunset 10.128.0.0/9\nok\n",
+/// ),
 /// ```
 pub fn lead<R: Read, W: Write>(
     alloc: Global,
@@ -125,15 +125,6 @@ fn follow_all<R: Read, W: Write>(
 /// - `Write` if `write` or `flush` fails, or if `write` writes nothing. All input was read, and a beginning of the flat list was written.
 ///
 /// # Examples
-/// An input that ends inside a line, and its output:
-///
-/// ```rust
-/// (
-///     "set 10.0.0.0/8 1\nok\nset 10.0.0.0/9 2\no",
-///     "flat 10.0.0.0/8 1\nok\n",
-/// ),
-/// ```
-///
 /// The bytes `input`, in a function that returns the output:
 ///
 /// ```rust
@@ -141,6 +132,15 @@ fn follow_all<R: Read, W: Write>(
 /// let mut writer = Counted::new(Vec::new(alloc));
 /// follow(alloc, &mut reader, &mut writer)?;
 /// Ok(writer.into_inner())
+/// ```
+///
+/// An input that ends inside a line, and its output:
+///
+/// ```rust
+/// (
+///     "set 10.0.0.0/8 1\nok\nset 10.0.0.0/9 2\no",
+///     "flat 10.0.0.0/8 1\nok\n",
+/// ),
 /// ```
 pub fn follow<R: Read, W: Write>(
     alloc: Global,
@@ -193,15 +193,6 @@ pub fn follow_then<R: Read, W: Write>(
 /// - `Write` if `write` or `flush` fails, or if `write` writes nothing. All input was read, and a beginning of the lines was written.
 ///
 /// # Examples
-/// An input, and its output:
-///
-/// ```rust
-/// (
-///     "set 10.0.0.0/8 1\nok\nset 10.0.0.0/9 2\nok\nset 10.64.0.0/10 1\nok\n",
-///     "add 10.0.0.0/8 1\nadd 10.0.0.0/10 2\n",
-/// ),
-/// ```
-///
 /// The bytes `input`, in a function that returns the output:
 ///
 /// ```rust
@@ -209,6 +200,15 @@ pub fn follow_then<R: Read, W: Write>(
 /// let mut writer = Counted::new(Vec::new(alloc));
 /// shorten(alloc, &mut reader, &mut writer)?;
 /// Ok(writer.into_inner())
+/// ```
+///
+/// An input, and its output:
+///
+/// ```rust
+/// (
+///     "set 10.0.0.0/8 1\nok\nset 10.0.0.0/9 2\nok\nset 10.64.0.0/10 1\nok\n",
+///     "add 10.0.0.0/8 1\nadd 10.0.0.0/10 2\n",
+/// ),
 /// ```
 pub fn shorten<R: Read, W: Write>(
     alloc: Global,

@@ -21,7 +21,16 @@ impl Command {
     /// there is one, must have no host bits, and the limit must be 1 to 1000. Does not allocate.
     ///
     /// # Examples
-    /// Texts of commands, and the lines that `print` returns for these commands:
+    /// `text_is` and `row_is` compare their last two arguments:
+    ///
+    /// ```rust
+    /// match Command::read(text.as_bytes()) {
+    ///     Ok(command) => text_is(rt, text, command.print().as_slice(), expected),
+    ///     Err(_) => row_is(rt, text, "", expected),
+    /// }
+    /// ```
+    ///
+    /// Values of `text` and `expected`:
     ///
     /// ```rust
     /// ("add 10.1.2.3/08 1", "add 10.0.0.0/8 1\n"),
@@ -140,7 +149,16 @@ impl Update {
     /// not allocate.
     ///
     /// # Examples
-    /// Texts of such lines, and the lines that `print` returns for them:
+    /// `text_is` and `row_is` compare their last two arguments:
+    ///
+    /// ```rust
+    /// match Update::read(text.as_bytes()) {
+    ///     Ok(update) => text_is(rt, text, update.print().as_slice(), expected),
+    ///     Err(_) => row_is(rt, text, "", expected),
+    /// }
+    /// ```
+    ///
+    /// Values of `text` and `expected`:
     ///
     /// ```rust
     /// ("install 10.1.2.3/08 7", "install 10.0.0.0/8 7\n"),

@@ -55,7 +55,7 @@ impl<'a> Flat<'a> {
     /// returned a block of the run before, the rest of this run is returned block by block.
     ///
     /// # Examples
-    /// If 10.0.0.0/9 has the hop 2, and the address behind it another one:
+    /// If 10.0.0.0/9 has the hop 2, and is the first run of the table:
     ///
     /// ```rust
     /// let run = table.flat().next_run();

@@ -35,7 +35,7 @@ impl<const CAPACITY: usize> Table<CAPACITY> {
     /// `Memory` if the network isn't stored and an allocation fails. The table is unchanged. For a stored network it never fails.
     ///
     /// # Examples
-    /// If `half`, a half of `wide`, is stored too:
+    /// If `wide`, 10.0.0.0/8, and `half`, 10.0.0.0/9, are stored:
     ///
     /// ```rust
     /// assert_eq!(rt; table.overwrite(wide, Hop::Number(3)), Ok(()));

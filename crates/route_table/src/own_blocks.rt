@@ -36,7 +36,7 @@ impl RouteTable {
     /// `Memory` if an allocation for the list fails.
     ///
     /// # Examples
-    /// If `half` is the only block with the hop 2:
+    /// If `half`, 10.0.0.0/9, is the only block with the hop 2:
     ///
     /// ```rust
     /// let own = table.own(2).expect(rt, "memory");

@@ -25,7 +25,7 @@ impl HopTable {
     /// `Memory` if the network isn't stored and an allocation fails. The table is unchanged. For a stored network it never fails.
     ///
     /// # Examples
-    /// If `wide` has the hop 3, and `half` is a half of it:
+    /// If `wide`, 10.0.0.0/8, has the hop 3, and `half` is 10.0.0.0/9:
     ///
     /// ```rust
     /// assert_eq!(rt; table.paint(half, Hop::Number(3)), Ok(()));

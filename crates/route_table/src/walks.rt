@@ -31,7 +31,7 @@ impl RouteTable {
     /// Returns the routes of the networks that contain this one, itself included, shortest first. Does not allocate.
     ///
     /// # Examples
-    /// If `wide`, 10.0.0.0/8, has the hop 1, and no wider network with `host` is stored:
+    /// If `wide`, 10.0.0.0/8, has the hop 1, and is the shortest stored network that contains `host`:
     ///
     /// ```rust
     /// let shortest = table.cover(&host).next();
