@@ -89,6 +89,13 @@ impl HopIndex {
     ///
     /// # Errors
     /// `Memory` if an allocation fails.
+    ///
+    /// # Examples
+    /// If `best` is a `HopTable`:
+    ///
+    /// ```rust
+    /// let index = HopIndex::of_hops(alloc, &best).expect(rt, "an index");
+    /// ```
     pub fn of_hops(alloc: Global, table: &HopTable) -> Result<HopIndex, Refused>
         ensures hops { IfOk result (λ i. (x : Address) → IsAddress x → hop_of i x ≡ hop_at (routes_of table.now) x) }
         ensures memory { IfErr result (λ e. e ≡ Memory) }
@@ -101,6 +108,11 @@ impl HopIndex {
     ///
     /// # Errors
     /// `Memory` if an allocation fails.
+    ///
+    /// # Examples
+    /// ```rust
+    /// let index = HopIndex::from_flat(rt.alloc(), table.flat()).expect(&rt, "an index");
+    /// ```
     pub fn from_flat(alloc: Global, flat: Flat<'_>) -> Result<HopIndex, Refused>
         requires { (h : Address → Option ℕ) × IsFlat h flat }
         ensures hops { IfOk result (λ i. (h : Address → Option ℕ) → IsFlat h flat.entry → (x : Address) → IsAddress x → hop_of i x ≡ h x) }
@@ -122,6 +134,14 @@ impl HopIndex {
     }
 
     /// Returns the hop of an address. Does not allocate.
+    ///
+    /// # Examples
+    /// If 10.0.0.0/9 has the hop 2, 11.0.0.0/8 none, and `address` parses a text:
+    ///
+    /// ```rust
+    /// assert_eq!(rt; index.hop(address(&rt, "10.1.2.3")), Some(2));
+    /// assert_eq!(rt; index.hop(address(&rt, "11.0.0.1")), None);
+    /// ```
     #[inline(always)]
     pub fn hop(&self, addr: IpAddr) -> Option<u32>
         ensures hop { result ≡ hop_of self.now (address_of addr) }
@@ -134,6 +154,16 @@ impl HopIndex {
     }
 
     /// Stores the hops of the addresses in `hops`, in the same order; both slices must have the same length. Does not allocate.
+    ///
+    /// # Examples
+    /// If 10.0.0.0/9 has the hop 2, 11.0.0.0/8 none, and `address` parses a text:
+    ///
+    /// ```rust
+    /// let addrs = [address(&rt, "10.1.2.3"), address(&rt, "11.0.0.1")];
+    /// let mut hops = [None; 2];
+    /// index.hops(&addrs, &mut hops);
+    /// assert_eq!(rt; hops, [Some(2), None]);
+    /// ```
     pub fn hops(&self, addrs: &[IpAddr], hops: &mut [Option<u32>])
         requires { length hops.old ≡ length addrs.now }
         ensures { hops.new ≡ map (λ addr. hop_of self.now (address_of addr)) addrs.now }

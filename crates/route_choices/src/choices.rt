@@ -16,6 +16,14 @@ use std::marker::Model;
 /// do not allocate.
 ///
 /// Contracts see the list of the choices.
+///
+/// # Examples
+/// ```rust
+/// let mut choices: Choices<8> = Choices::one(Hop::Number(5), 100);
+/// assert_eq!(rt; choices.add(Hop::Number(3), 100), Ok(()));
+/// assert_eq!(rt; choices.add(Hop::Drop, 200), Ok(()));
+/// assert_eq!(rt; choices.best(), (Hop::Drop, 200));
+/// ```
 #[derive(Drop)]
 pub struct Choices<const CAPACITY: usize> {
     slots: [Slot; CAPACITY],
@@ -80,6 +88,16 @@ impl Choices<8> {
     ///
     /// # Errors
     /// `TooMany` exactly if eight other hops are stored. Then nothing changes.
+    ///
+    /// # Examples
+    /// If the hops 3 and 5 are stored:
+    ///
+    /// ```rust
+    /// for number in 6..12 {
+    ///     assert_eq!(rt; choices.add(Hop::Number(number), 100), Ok(()));
+    /// }
+    /// assert_eq!(rt; choices.add(Hop::Drop, 200), Err(TooMany));
+    /// ```
     pub fn add(&mut self, hop: Hop, pref: u16) -> Result<(), TooMany>
         ensures choices { OnOk result (self.new ≡ choices_with self.old (record { hop = hop; pref = pref })) }
         ensures room { OnOk result (is_one_too_many self.old hop ≡ false) }
@@ -100,6 +118,12 @@ impl Choices<8> {
 
 impl<const CAPACITY: usize> Choices<CAPACITY> {
     /// Makes a list of one choice.
+    ///
+    /// # Examples
+    /// ```rust
+    /// let mut choices: Choices<8> = Choices::one(Hop::Number(5), 100);
+    /// assert_eq!(rt; choices.add(Hop::Number(3), 100), Ok(()));
+    /// ```
     pub fn one(hop: Hop, pref: u16) -> Choices<CAPACITY>
         requires { 0 < CAPACITY }
         ensures choices { result ≡ record { hop = hop; pref = pref } ∷ [] }
@@ -112,6 +136,14 @@ impl<const CAPACITY: usize> Choices<CAPACITY> {
     }
 
     /// Removes the hop, and returns whether it was stored.
+    ///
+    /// # Examples
+    /// If `drop` is the best choice, and the hop 3 with preference 100 the next one:
+    ///
+    /// ```rust
+    /// assert!(rt; choices.remove(Hop::Drop));
+    /// assert_eq!(rt; choices.best(), (Hop::Number(3), 100));
+    /// ```
     pub fn remove(&mut self, hop: Hop) -> bool
         ensures held { result ≡ holds_hop self.old hop }
         ensures choices { self.new ≡ choices_without self.old hop }
@@ -129,6 +161,14 @@ impl<const CAPACITY: usize> Choices<CAPACITY> {
     }
 
     /// Returns the best choice, or `drop` with preference 0 if there is none. A stored network always has a choice.
+    ///
+    /// # Examples
+    /// If all other choices have the preference 100:
+    ///
+    /// ```rust
+    /// assert_eq!(rt; choices.add(Hop::Drop, 200), Ok(()));
+    /// assert_eq!(rt; choices.best(), (Hop::Drop, 200));
+    /// ```
     pub fn best(&self) -> (Hop, u16)
         ensures { result ≡ (best_hop self.now, best_preference self.now) }
     {
@@ -143,6 +183,16 @@ impl<const CAPACITY: usize> Choices<CAPACITY> {
     }
 
     /// Returns all choices, best first.
+    ///
+    /// # Examples
+    /// If the hops 5 and 3 are stored with preference 100:
+    ///
+    /// ```rust
+    /// let mut all = choices.all();
+    /// assert_eq!(rt; all.next(), Some((Hop::Number(3), 100)));
+    /// assert_eq!(rt; all.next(), Some((Hop::Number(5), 100)));
+    /// assert_eq!(rt; all.next(), None);
+    /// ```
     pub fn all(&self) -> All<'_>
         ensures { result ≡ self.now }
     {

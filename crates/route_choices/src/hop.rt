@@ -14,6 +14,12 @@ pub enum Hop {
 
 impl Hop {
     /// Returns the number of the hop, or `None` for `Drop`.
+    ///
+    /// # Examples
+    /// ```rust
+    /// assert_eq!(rt; Hop::Number(7).number(), Some(7));
+    /// assert_eq!(rt; Hop::Drop.number(), None);
+    /// ```
     pub fn number(self) -> Option<u32>
         ensures number { result ≡ number_of self }
         ensures in_range { IsHop self }

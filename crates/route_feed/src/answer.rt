@@ -26,6 +26,27 @@ use std::io::Write;
 /// # Errors
 /// Only `Write`: if `write` or `flush` fails, or if `write` writes nothing. Then only a beginning of the reply was written, and the table
 /// is the one after the line.
+///
+/// # Examples
+/// The reply to `line`, in memory; `row_is` compares its last two arguments:
+///
+/// ```rust
+/// let mut writer = Counted::new(Vec::new(alloc));
+/// row_is(
+///     rt,
+///     line,
+///     lead_line(table, line.as_bytes(), &mut writer),
+///     Ok(()),
+/// );
+/// ```
+///
+/// Lines for a table that is empty at first, and the replies:
+///
+/// ```rust
+/// ("add 10.0.0.0/8 1", "set 10.0.0.0/8 1\nok\n"),
+/// ("get 10.1.0.0/16", "route 10.0.0.0/8 1 100\nok\n"),
+/// ("add", "bad\n"),
+/// ```
 pub fn lead_line<W: Write>(
     table: &mut RouteTable,
     line: &[u8],

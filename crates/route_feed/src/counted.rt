@@ -10,6 +10,16 @@ use std::io::{Read, Write};
 /// A reader or a writer that counts its `read` calls, its faults, and the flushes that followed written bytes.
 ///
 /// It passes on `read`, `write` and `flush`. Its contracts say as much about its bytes as those of the device.
+///
+/// # Examples
+/// Over the bytes `input`, in a function that returns the bytes written:
+///
+/// ```rust
+/// let mut reader = Counted::new(input);
+/// let mut writer = Counted::new(Vec::new(alloc));
+/// lead(alloc, &mut reader, &mut writer)?;
+/// Ok(writer.into_inner())
+/// ```
 #[derive(Drop)]
 pub struct Counted<D> {
     device: D,
@@ -71,6 +81,14 @@ impl<D> Counted<D> {
     }
 
     /// Returns whether the last call was a fault.
+    ///
+    /// # Examples
+    /// After a run with the result `ended`; `row_is` compares its last two arguments:
+    ///
+    /// ```rust
+    /// row_is(rt, row, reader.failing(), ended == Err(RunError::Read));
+    /// row_is(rt, row, writer.failing(), ended == Err(RunError::Write));
+    /// ```
     pub fn failing(&self) -> bool
         ensures { result ≡ self.now.failing }
     {
@@ -85,6 +103,14 @@ impl<D> Counted<D> {
     }
 
     /// Returns the number of flushes that followed written bytes. It stays at the greatest `u64`.
+    ///
+    /// # Examples
+    /// After `lead_line`; `row_is` compares its last two arguments:
+    ///
+    /// ```rust
+    /// row_is(rt, line, writer.flushes(), 1);
+    /// row_is(rt, line, writer.waiting(), false);
+    /// ```
     pub fn flushes(&self) -> u64
         ensures { result ≡ self.now.flushes }
     {

@@ -26,6 +26,12 @@ pub enum RunError {
 
 impl RunError {
     /// Returns the exit status of a program whose run ended with this error.
+    ///
+    /// # Examples
+    /// ```rust
+    /// assert_eq!(rt; RunError::Memory.status(), 1);
+    /// assert_eq!(rt; RunError::Line.status(), 5);
+    /// ```
     pub fn status(&self) -> u8
         ensures { result ≡ status_of self.now }
     {

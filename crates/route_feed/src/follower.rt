@@ -79,6 +79,17 @@ pub(crate) struct Waiting {
 ///
 /// `set` and `unset` lines are pending until their reply is closed. `ok` commits them in order, and `none`, `bad` and `refused` drop
 /// them. All other lines change nothing. After a fault, a follower accepts no more lines.
+///
+/// # Examples
+/// The hop of an address, `host`, inside 10.0.0.0/8:
+///
+/// ```rust
+/// let mut follower = Follower::new(rt.alloc())?;
+/// follower.line(b"set 10.0.0.0/8 1")?;
+/// assert_eq!(rt; follower.hop(host), None);
+/// follower.line(b"ok")?;
+/// assert_eq!(rt; follower.hop(host), Some(1));
+/// ```
 #[derive(Drop)]
 pub struct Follower {
     table: HopTable,
@@ -113,6 +124,14 @@ impl Follower {
     ///
     /// # Errors
     /// None. The `Result` leaves room for an implementation that allocates here.
+    ///
+    /// # Examples
+    /// ```rust
+    /// let mut follower = Follower::new(rt.alloc())?;
+    /// assert_eq!(rt; follower.line(b"set 10.0.0.0/8 1"), Ok(()));
+    /// assert_eq!(rt; follower.line(b"ok"), Ok(()));
+    /// assert_eq!(rt; follower.failed(), false);
+    /// ```
     pub fn new(alloc: Global) -> Result<Follower, RunError>
         ensures ok { IsOk result }
         ensures state { IfOk result (λ f. f ≡ record { table = []; pending = []; failed = false }) }
@@ -126,6 +145,13 @@ impl Follower {
     }
 
     /// Returns whether there was a fault.
+    ///
+    /// # Examples
+    /// ```rust
+    /// assert_eq!(rt; follower.failed(), false);
+    /// assert_eq!(rt; follower.line(b"ok "), Err(FollowError::NotALine));
+    /// assert_eq!(rt; follower.failed(), true);
+    /// ```
     pub fn failed(&self) -> bool
         ensures { result ≡ self.now.failed }
     {
@@ -133,6 +159,14 @@ impl Follower {
     }
 
     /// Returns the flat list of the hops, or `None` after a fault.
+    ///
+    /// # Examples
+    /// After a fault:
+    ///
+    /// ```rust
+    /// assert_eq!(rt; follower.line(b"ok"), Err(FollowError::Failed));
+    /// assert_eq!(rt; follower.flat().is_none(), true);
+    /// ```
     pub fn flat(&self) -> Option<Flat<'_>>
         ensures works { IfNone result (self.now.failed ≡ true) }
         ensures failed { self.now.failed ≡ true → result ≡ None }
@@ -147,6 +181,16 @@ impl Follower {
     /// Returns the hop of an address, or `None` if it has none. Does not allocate.
     ///
     /// If memory ran out at an `ok`, only some changes of this reply may be committed. Check `failed` first if you need all of them.
+    ///
+    /// # Examples
+    /// If `host` is an address inside 10.0.0.0/8:
+    ///
+    /// ```rust
+    /// follower.line(b"set 10.0.0.0/8 1")?;
+    /// assert_eq!(rt; follower.hop(host), None);
+    /// follower.line(b"ok")?;
+    /// assert_eq!(rt; follower.hop(host), Some(1));
+    /// ```
     pub fn hop(&self, addr: IpAddr) -> Option<u32>
         ensures { result ≡ hop_at (routes_of self.now.table) (address_of addr) }
     {
@@ -158,6 +202,14 @@ impl Follower {
     ///
     /// # Errors
     /// `Memory` if an allocation fails. This is no fault of the follower, and a later call may succeed.
+    ///
+    /// # Examples
+    /// If only 10.0.0.0/8 has a hop:
+    ///
+    /// ```rust
+    /// let least = follower.least()?.expect(&rt, "no fault");
+    /// assert_eq!(rt; least.len(), 1);
+    /// ```
     pub fn least(&self) -> Result<Option<Vec<(IpNet, Hop)>>, RunError>
         ensures works { IfOk result (λ found. IfNone found (self.now.failed ≡ true)) }
         ensures failed { self.now.failed ≡ true → result ≡ Ok None }
@@ -196,6 +248,15 @@ impl Follower {
     ///   the table at a line with a change; at `ok` the first few of the pending changes may be applied.
     ///
     /// Both `NotALine` and `Memory` are faults.
+    ///
+    /// # Examples
+    /// Without a fault before:
+    ///
+    /// ```rust
+    /// assert_eq!(rt; follower.line(b"ok "), Err(FollowError::NotALine));
+    /// assert_eq!(rt; follower.failed(), true);
+    /// assert_eq!(rt; follower.line(b"ok"), Err(FollowError::Failed));
+    /// ```
     pub fn line(&mut self, text: &[u8]) -> Result<(), FollowError>
         ensures ok { OnOk result ((line : Reply) × (reply_of text.now ≡ Some line) × TakesLine self.old self.new line) }
         ensures works { OnOk result ((self.old.failed ≡ false) × (self.new.failed ≡ false)) }

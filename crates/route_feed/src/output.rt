@@ -64,6 +64,9 @@ impl<'a, W: Write + Drop> Write for Output<'a, W> {
 }
 
 /// Writes out the gathered bytes, and returns the output.
+///
+/// # Errors
+/// `Write` if `write` fails or writes nothing.
 pub fn write_out<W: Write + Drop>(buffered: BufWriter<W>) -> Result<W, RunError>
     ensures written { IfOk result (λ w. Keeps (writer_contents W.contents buffered) (W.contents w)) }
     ensures fault { IfErr result (λ e. e ≡ RunError.Write) }

@@ -39,6 +39,25 @@ use std::io::{Read, Write};
 ///   the last one in it was flushed.
 ///
 /// It never fails with `Line`.
+///
+/// # Examples
+/// The bytes `input`, in a function that returns the output:
+///
+/// ```rust
+/// let mut reader = Counted::new(input);
+/// let mut writer = Counted::new(Vec::new(alloc));
+/// lead(alloc, &mut reader, &mut writer)?;
+/// Ok(writer.into_inner())
+/// ```
+///
+/// An input, and its output:
+///
+/// ```rust
+/// (
+///     "add 10.0.0.0/8 1\nadd 10.0.0.0/9 2\ndel 10.0.0.0/8 1\n",
+///     "set 10.0.0.0/8 1\nok\nset 10.0.0.0/9 2\nok\nunset 10.128.0.0/9\nok\n",
+/// ),
+/// ```
 pub fn lead<R: Read, W: Write>(
     alloc: Global,
     reader: &mut Counted<R>,
@@ -104,6 +123,25 @@ fn follow_all<R: Read, W: Write>(
 /// - `Memory` before anything is read, or at a reply line with a change, or at one that commits changes.
 /// - `Read` if `read` fails, or if 2^62 calls of `read` don't reach the end.
 /// - `Write` if `write` or `flush` fails, or if `write` writes nothing. All input was read, and a beginning of the flat list was written.
+///
+/// # Examples
+/// The bytes `input`, in a function that returns the output:
+///
+/// ```rust
+/// let mut reader = Counted::new(input);
+/// let mut writer = Counted::new(Vec::new(alloc));
+/// follow(alloc, &mut reader, &mut writer)?;
+/// Ok(writer.into_inner())
+/// ```
+///
+/// An input that ends inside a line, and its output:
+///
+/// ```rust
+/// (
+///     "set 10.0.0.0/8 1\nok\nset 10.0.0.0/9 2\no",
+///     "flat 10.0.0.0/8 1\nok\n",
+/// ),
+/// ```
 pub fn follow<R: Read, W: Write>(
     alloc: Global,
     reader: &mut Counted<R>,
@@ -153,6 +191,25 @@ pub fn follow_then<R: Read, W: Write>(
 /// - `Memory` before anything is read, at a reply line with a change, at one that commits changes, or after all is read.
 /// - `Read` if `read` fails, or if 2^62 calls of `read` don't reach the end.
 /// - `Write` if `write` or `flush` fails, or if `write` writes nothing. All input was read, and a beginning of the lines was written.
+///
+/// # Examples
+/// The bytes `input`, in a function that returns the output:
+///
+/// ```rust
+/// let mut reader = Counted::new(input);
+/// let mut writer = Counted::new(Vec::new(alloc));
+/// shorten(alloc, &mut reader, &mut writer)?;
+/// Ok(writer.into_inner())
+/// ```
+///
+/// An input, and its output:
+///
+/// ```rust
+/// (
+///     "set 10.0.0.0/8 1\nok\nset 10.0.0.0/9 2\nok\nset 10.64.0.0/10 1\nok\n",
+///     "add 10.0.0.0/8 1\nadd 10.0.0.0/10 2\n",
+/// ),
+/// ```
 pub fn shorten<R: Read, W: Write>(
     alloc: Global,
     reader: &mut Counted<R>,
@@ -191,6 +248,18 @@ pub fn shorten<R: Read, W: Write>(
 /// - `Memory` before anything is read, or at a `have` line, a `sync`, a reply line with a change, or one that commits changes.
 /// - `Read` if `read` fails, or if 2^62 calls of `read` don't reach the end.
 /// - `Write` if `write` or `flush` fails, or if `write` writes nothing.
+///
+/// # Examples
+/// `text_is` compares its last two arguments:
+///
+/// ```rust
+/// let input: &[u8] = b"have 10.0.0.0/8 1\nset 10.0.0.0/8 2\nok\nsync\n";
+/// let mut reader = Counted::new(input);
+/// let mut writer = Counted::new(Vec::new(rt.alloc()));
+/// install(rt.alloc(), &mut reader, &mut writer)?;
+/// let out = writer.into_inner();
+/// text_is(&rt, "one", out.as_slice(), "install 10.0.0.0/8 2\nok\n");
+/// ```
 pub fn install<R: Read, W: Write>(
     alloc: Global,
     reader: &mut Counted<R>,

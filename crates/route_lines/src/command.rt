@@ -41,6 +41,16 @@ impl Command {
     ///
     /// # Errors
     /// `NotALine` exactly if the text isn't a command.
+    ///
+    /// # Examples
+    /// ```rust
+    /// let Ok(Command::Add { net, hop, pref }) = Command::read(b"add 10.1.2.3/8 7") else {
+    ///     panic!(&rt; "no command")
+    /// };
+    /// assert_eq!(rt; net.to_text().as_slice(), "10.0.0.0/8".as_bytes());
+    /// assert_eq!(rt; hop, Hop::Number(7));
+    /// assert_eq!(rt; pref, 100);
+    /// ```
     pub fn read(line: &[u8]) -> Result<Command, NotALine>
         ensures { Parses IsCommand line.now result }
     {

@@ -17,6 +17,13 @@ pub enum Line {
 
 impl Line {
     /// Returns the bytes, or `None` if the line is too long.
+    ///
+    /// # Examples
+    /// If `line` is `ok`:
+    ///
+    /// ```rust
+    /// assert_eq!(rt; line.text(), Some(b"ok".as_slice()));
+    /// ```
     pub fn text(&self) -> Option<&[u8]>
         ensures { as_line result ≡ self.now }
     {
@@ -28,6 +35,13 @@ impl Line {
 }
 
 /// Returns the line that these bytes before a line end are, as `Line::text` does: `None` if there are more than 80 bytes.
+///
+/// # Examples
+/// If `line` is the line `ok` of a `LineCutter`:
+///
+/// ```rust
+/// assert_eq!(rt; line_text(b"ok"), line.text());
+/// ```
 pub fn line_text(piece: &[u8]) -> Option<&[u8]>
     ensures { as_line result ≡ line_of piece.now }
 {
@@ -47,6 +61,16 @@ pub enum Rest {
 ///
 /// A line ends at byte 0x0A, and is returned at this byte, never before. A carriage return is an ordinary byte. Contracts see the first
 /// 80 of the bytes since the last line end, and whether there were more.
+///
+/// # Examples
+/// ```rust
+/// let mut cutter = LineCutter::new();
+/// assert!(rt; cutter.feed(b'o').is_none());
+/// assert!(rt; cutter.feed(b'k').is_none());
+/// assert_eq!(rt; cutter.rest(), Rest::Held);
+/// let line = cutter.feed(b'\n').expect(&rt, "a line");
+/// assert_eq!(rt; line.text(), Some(b"ok".as_slice()));
+/// ```
 #[derive(Drop)]
 pub struct LineCutter {
     held: ArrayVec<u8, 80>,
@@ -75,6 +99,14 @@ impl LineCutter {
     }
 
     /// Takes the next byte, and returns the line that this byte ends, if it is a line end. Does not allocate.
+    ///
+    /// # Examples
+    /// After the bytes of `ok`:
+    ///
+    /// ```rust
+    /// let line = cutter.feed(b'\n').expect(&rt, "a line");
+    /// assert_eq!(rt; line.text(), Some(b"ok".as_slice()));
+    /// ```
     pub fn feed(&mut self, byte: u8) -> Option<Line>
         ensures line { result ≡ fed_answer self.old byte }
         ensures kept { self.new ≡ fed self.old byte }
@@ -97,6 +129,15 @@ impl LineCutter {
     }
 
     /// Returns whether there is no byte after the last line end, as in a new cutter.
+    ///
+    /// # Examples
+    /// After the bytes of `ok`:
+    ///
+    /// ```rust
+    /// let line = cutter.feed(b'\n').expect(&rt, "a line");
+    /// assert_eq!(rt; line.text(), Some(b"ok".as_slice()));
+    /// assert!(rt; cutter.is_new());
+    /// ```
     pub fn is_new(&self) -> bool
         ensures { IsTrue result ↔ (self.now ≡ kept_of []) }
     {
@@ -104,6 +145,12 @@ impl LineCutter {
     }
 
     /// Returns whether there are bytes after the last line end.
+    ///
+    /// # Examples
+    /// ```rust
+    /// assert!(rt; cutter.feed(b'k').is_none());
+    /// assert_eq!(rt; cutter.rest(), Rest::Held);
+    /// ```
     pub fn rest(&self) -> Rest
         ensures { result ≡ rest_in self.now }
     {

@@ -24,6 +24,11 @@ impl Note {
     ///
     /// # Errors
     /// `NotALine` exactly if the text isn't such a line.
+    ///
+    /// # Examples
+    /// ```rust
+    /// assert!(rt; Note::read(b"sync") == Ok(Note::Sync));
+    /// ```
     pub fn read(line: &[u8]) -> Result<Note, NotALine>
         ensures { Parses IsNote line.now result }
     {

@@ -19,6 +19,24 @@ use route_table::{DEFAULT_PREFERENCE, Hop};
 impl Command {
     /// Returns the text of the command, with its line end. A preference of 100 is omitted. The text reads as this command. The network, if
     /// there is one, must have no host bits, and the limit must be 1 to 1000. Does not allocate.
+    ///
+    /// # Examples
+    /// `text_is` and `row_is` compare their last two arguments:
+    ///
+    /// ```rust
+    /// match Command::read(text.as_bytes()) {
+    ///     Ok(command) => text_is(rt, text, command.print().as_slice(), expected),
+    ///     Err(_) => row_is(rt, text, "", expected),
+    /// }
+    /// ```
+    ///
+    /// Values of `text` and `expected`:
+    ///
+    /// ```rust
+    /// ("add 10.1.2.3/08 1", "add 10.0.0.0/8 1\n"),
+    /// ("add 10.0.0.0/8 1 100", "add 10.0.0.0/8 1\n"),
+    /// ("add 10.0.0.0/8 1 0", "add 10.0.0.0/8 1 0\n"),
+    /// ```
     pub fn print(&self) -> ArrayVec<u8, 80>
         requires { IsPrintableCommand self.now }
         ensures { IsPrinted IsCommand command_text 65 self.now result.items }
@@ -67,6 +85,14 @@ impl Command {
 impl Reply {
     /// Returns the text of the line, with its line end; it reads as this line. The network, if there is one, must have no host bits. Does
     /// not allocate.
+    ///
+    /// # Examples
+    /// ```rust
+    /// assert_eq!(rt;
+    ///     Reply::Close(Closing::Missing).print().as_slice(),
+    ///     "none\n".as_bytes()
+    /// );
+    /// ```
     pub fn print(&self) -> ArrayVec<u8, 80>
         requires { IsPrintable self.now }
         ensures { IsPrinted IsReply reply_text 67 self.now result.items }
@@ -121,6 +147,24 @@ impl Reply {
 impl Update {
     /// Returns the text of the line, with its line end; it reads as this line. The network, if there is one, must have no host bits. Does
     /// not allocate.
+    ///
+    /// # Examples
+    /// `text_is` and `row_is` compare their last two arguments:
+    ///
+    /// ```rust
+    /// match Update::read(text.as_bytes()) {
+    ///     Ok(update) => text_is(rt, text, update.print().as_slice(), expected),
+    ///     Err(_) => row_is(rt, text, "", expected),
+    /// }
+    /// ```
+    ///
+    /// Values of `text` and `expected`:
+    ///
+    /// ```rust
+    /// ("install 10.1.2.3/08 7", "install 10.0.0.0/8 7\n"),
+    /// ("install 10.0.0.0/8 drop", "install 10.0.0.0/8 drop\n"),
+    /// ("install 2001:DB8::1/32 0", "install 2001:db8::/32 0\n"),
+    /// ```
     pub fn print(&self) -> ArrayVec<u8, 67>
         requires { IsPrintableUpdate self.now }
         ensures { IsPrinted IsUpdate update_text 63 self.now result.items }

@@ -84,6 +84,11 @@ impl Closing {
     }
 
     /// Returns the text of the line, with its line end, as `Reply::print` does.
+    ///
+    /// # Examples
+    /// ```rust
+    /// assert_eq!(rt; Closing::Done.line(), b"ok\n".as_slice());
+    /// ```
     pub fn line(self) -> &'static [u8]
         ensures text { result.now ≡ closing_text self ++ codes "\n" }
         ensures len { length result.now ≤ 8 }
@@ -102,6 +107,11 @@ impl Reply {
     ///
     /// # Errors
     /// `NotALine` exactly if the text isn't a reply line.
+    ///
+    /// # Examples
+    /// ```rust
+    /// assert!(rt; Reply::read(b"ok") == Ok(Reply::Close(Closing::Done)));
+    /// ```
     pub fn read(line: &[u8]) -> Result<Reply, NotALine>
         ensures { Parses IsReply line.now result }
     {

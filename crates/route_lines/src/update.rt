@@ -24,6 +24,11 @@ impl Update {
     ///
     /// # Errors
     /// `NotALine` exactly if the text isn't such a line.
+    ///
+    /// # Examples
+    /// ```rust
+    /// assert!(rt; Update::read(b"ok") == Ok(Update::Done));
+    /// ```
     pub fn read(line: &[u8]) -> Result<Update, NotALine>
         ensures { Parses IsUpdate line.now result }
     {
@@ -41,6 +46,14 @@ impl Update {
 }
 
 /// The line of an operation.
+///
+/// # Examples
+/// If `operation` installs 10.0.0.0/8 with the hop 7, and `text` is `install 10.0.0.0/8 7`:
+///
+/// ```rust
+/// let update = Update::read(text.as_bytes()).expect(rt, text);
+/// row_is(rt, text, update == Update::from(operation), true);
+/// ```
 impl From<Operation> for Update {
     ghost from_gives = { λ operation update. update ≡ update_for operation };
 

@@ -155,6 +155,15 @@ impl HopTable {
     ///
     /// For example, this table has the hop 1 at 10.0.0.0/8 and the hop 2 at 10.0.0.0/9. The list has the hop 2 at 10.0.0.0/8 and the hop 1
     /// at 10.64.0.0/10. The operations install 10.64.0.0/10, install 10.0.0.0/8 and remove 10.0.0.0/9.
+    ///
+    /// # Examples
+    /// If this table has only 10.0.0.0/8, and the last route of `list` is `half` with the hop 2:
+    ///
+    /// ```rust
+    /// let first = table.between(list.as_slice()).next();
+    /// let (net, hop) = (half, Hop::Number(2));
+    /// assert_eq!(rt; first, Some(Operation::Install { net, hop }));
+    /// ```
     pub fn between<'a>(&'a self, list: &'a [(IpNet, Hop)]) -> Between<'a>
         requires table { IsTable (routes_for list.now) }
         requires truncated { All (λ r. IsTruncated (family r.0) (parts r.0)) list.now }

@@ -53,6 +53,14 @@ impl<'a> BothRuns<'a> {
 impl<'a> Flat<'a> {
     /// Returns the addresses of the next blocks that are adjacent and have one hop, as one run, and skips these blocks. If `next` has
     /// returned a block of the run before, the rest of this run is returned block by block.
+    ///
+    /// # Examples
+    /// If 10.0.0.0/9 has the hop 2, and is the first run of the table:
+    ///
+    /// ```rust
+    /// let run = table.flat().next_run();
+    /// assert_eq!(rt; run, Some(HopRun::V4(0x0a00_0000, 0x0a7f_ffff, 2)));
+    /// ```
     pub fn next_run(&mut self) -> Option<HopRun>
         ensures { GivesHopRun self.old result self.new }
     {

@@ -29,6 +29,11 @@ impl HopTable {
     ///
     /// # Errors
     /// None. The `Result` leaves room for an implementation that allocates here.
+    ///
+    /// # Examples
+    /// ```rust
+    /// let mut table = HopTable::new(rt.alloc()).expect(&rt, "a table");
+    /// ```
     pub fn new(alloc: Global) -> Result<HopTable, Refused>
         ensures { IsEmptied result }
     {
@@ -39,6 +44,14 @@ impl HopTable {
     ///
     /// # Errors
     /// `Memory` if an allocation fails.
+    ///
+    /// # Examples
+    /// With the routes of another table:
+    ///
+    /// ```rust
+    /// let list = table.least().expect(rt, "memory");
+    /// let copy = HopTable::from_routes(alloc, list.as_slice()).expect(rt, "memory");
+    /// ```
     pub fn from_routes(alloc: Global, list: &[(IpNet, Hop)]) -> Result<HopTable, Refused>
         requires { IsTable (routes_for list.now) }
         ensures routes { IfOk result (λ t. routes_of t ≡ routes_for list.now) }
@@ -56,6 +69,15 @@ impl HopTable {
     ///
     /// # Errors
     /// `Memory` if the network isn't stored and an allocation fails. The table is unchanged. For a stored network it never fails.
+    ///
+    /// # Examples
+    /// With `wide`, 10.0.0.0/8, `half`, 10.0.0.0/9, and `host`, 10.1.2.3/32:
+    ///
+    /// ```rust
+    /// assert_eq!(rt; table.install(wide, Hop::Number(1)), Ok(()));
+    /// assert_eq!(rt; table.install(half, Hop::Number(2)), Ok(()));
+    /// assert_eq!(rt; table.get(&host), Some((half, Hop::Number(2), 100)));
+    /// ```
     pub fn install(&mut self, net: IpNet, hop: Hop) -> Result<(), Refused>
         ensures routes { OnOk result (routes_of self.new ≡ with_route (routes_of self.old) (route_of net hop default_preference)) }
         ensures tables { IsStoredTable self.old × IsStoredTable self.new }

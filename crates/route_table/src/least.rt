@@ -183,6 +183,14 @@ impl HopTable {
     ///
     /// # Errors
     /// `Memory` if an allocation fails, for the routes or for the computation.
+    ///
+    /// # Examples
+    /// ```rust
+    /// let mut list = Vec::new(alloc);
+    /// for route in table.into_least().expect(rt, "memory") {
+    ///     list.push(route).expect(rt, "memory");
+    /// }
+    /// ```
     pub fn into_least(self) -> Result<LeastRoutes, Refused>
         ensures least { IfOk result (λ routes. IsLeast (hop_at (routes_of self)) (routes_for routes)) }
         ensures truncated { IfOk result (λ routes. All (λ r. IsTruncated (family r.0) (parts r.0)) routes) }

@@ -33,6 +33,14 @@ impl<const CAPACITY: usize> Table<CAPACITY> {
     ///
     /// # Errors
     /// `Memory` if the network isn't stored and an allocation fails. The table is unchanged. For a stored network it never fails.
+    ///
+    /// # Examples
+    /// If `wide`, 10.0.0.0/8, and `half`, 10.0.0.0/9, are stored:
+    ///
+    /// ```rust
+    /// assert_eq!(rt; table.overwrite(wide, Hop::Number(3)), Ok(()));
+    /// assert_eq!(rt; table.get(&half), Some((wide, Hop::Number(3), 100)));
+    /// ```
     pub fn overwrite(&mut self, net: IpNet, hop: Hop) -> Result<(), Refused>
         ensures networks { OnOk result (self.new ≡ overwritten_by self.old (block net) (record { hop = hop; pref = default_preference })) }
         ensures tables { IsStoredTable self.old × IsStoredTable self.new }

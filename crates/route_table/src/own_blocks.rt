@@ -34,6 +34,14 @@ impl RouteTable {
     ///
     /// # Errors
     /// `Memory` if an allocation for the list fails.
+    ///
+    /// # Examples
+    /// If `half`, 10.0.0.0/9, is the only block with the hop 2:
+    ///
+    /// ```rust
+    /// let own = table.own(2).expect(rt, "memory");
+    /// assert_eq!(rt; own.as_slice(), [half].as_slice());
+    /// ```
     pub fn own(&self, number: u32) -> Result<Vec<IpNet>, Refused>
         ensures maximal { IfOk result (λ v. IsMaximal (λ x. hop_at (routes_of self.now) x ≡ Some number) (map block v.items)) }
         ensures shortest { IfOk result (λ v. IsShortest (λ x. hop_at (routes_of self.now) x ≡ Some number) (map block v.items)) }

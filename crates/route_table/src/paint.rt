@@ -23,6 +23,14 @@ impl HopTable {
     ///
     /// # Errors
     /// `Memory` if the network isn't stored and an allocation fails. The table is unchanged. For a stored network it never fails.
+    ///
+    /// # Examples
+    /// If `wide`, 10.0.0.0/8, has the hop 3, and `half` is 10.0.0.0/9:
+    ///
+    /// ```rust
+    /// assert_eq!(rt; table.paint(half, Hop::Number(3)), Ok(()));
+    /// assert_eq!(rt; table.get(&half), Some((wide, Hop::Number(3), 100)));
+    /// ```
     pub fn paint(&mut self, net: IpNet, hop: Hop) -> Result<(), Refused>
         ensures routes { OnOk result (routes_of self.new ≡ painted (routes_of self.old) (route_of net hop default_preference)) }
         ensures tables { IsStoredTable self.old × IsStoredTable self.new }

@@ -97,6 +97,14 @@ impl HopTable {
     ///
     /// For example, 10.0.0.0/8 has the hop 1, 10.0.0.0/9 the hop 2 and 10.0.0.0/10 the hop 3. The operations for 10.0.0.0/9 and the hop 1
     /// remove 10.0.0.0/9 and 10.0.0.0/10. Those for the hop 4 install 10.0.0.0/9 and remove 10.0.0.0/10.
+    ///
+    /// # Examples
+    /// If 10.0.0.0/8 has the hop 1, and `half`, 10.0.0.0/9, the hop 2:
+    ///
+    /// ```rust
+    /// let first = table.repaint(half, Hop::Number(1)).next();
+    /// assert_eq!(rt; first, Some(Operation::Remove { net: half }));
+    /// ```
     pub fn repaint(&self, net: IpNet, hop: Hop) -> Repaint<'_>
         ensures operations { result ≡ repainted (routes_of self.now) net hop }
         ensures table { IsTable (routes_of self.now) }

@@ -144,8 +144,10 @@ impl<P: OfFamily> Side<P, 8> {
     /// longest match before and after.
     ///
     /// # Errors
-    /// `TooMany` exactly if the network has eight other hops. `Store` if the network isn't stored and an allocation fails. The side is
-    /// unchanged.
+    /// The side is unchanged.
+    ///
+    /// - `TooMany` exactly if the network has eight other hops.
+    /// - `Store` if the network isn't stored and an allocation fails.
     pub(crate) fn add(
         &mut self,
         net: P,

@@ -86,8 +86,10 @@ impl RouteTable {
     /// addresses changed their hop, and `governed` lists them; else no address did.
     ///
     /// # Errors
-    /// `TooMany` exactly if the network has eight other hops. `Store` if the network isn't stored and an allocation fails. The table is
-    /// unchanged. An `add` to a stored network does not allocate.
+    /// The table is unchanged.
+    ///
+    /// - `TooMany` exactly if the network has eight other hops.
+    /// - `Store` if the network isn't stored and an allocation fails. An `add` to a stored network does not allocate.
     ///
     /// # Examples
     /// With `wide`, 10.0.0.0/8, and its first half, in an empty table:
@@ -135,6 +137,15 @@ impl RouteTable {
     }
 
     /// Returns the routes of exactly this network, best first: each hop with its preference. Does not allocate.
+    ///
+    /// # Examples
+    /// If `half`, 10.0.0.0/9, has only the hop 2:
+    ///
+    /// ```rust
+    /// let mut all = table.all(&half);
+    /// assert_eq!(rt; all.next(), Some((Hop::Number(2), 100)));
+    /// assert_eq!(rt; all.next(), None);
+    /// ```
     pub fn all(&self, net: &IpNet) -> route_choices::All<'_>
         ensures { result ≡ choices_at self.now (block net.now) }
     {
@@ -175,6 +186,14 @@ impl RouteTable {
     /// Returns the maximal blocks, ascending, of the addresses that the network governs: those that no longer stored network inside it
     /// contains. No list of blocks with these addresses is shorter. Their number is at most 1 and, for each stored network strictly
     /// inside, the difference of the two lengths less 1. Does not allocate.
+    ///
+    /// # Examples
+    /// If `wide`, 10.0.0.0/8, and its first half are stored, and `other_half` is 10.128.0.0/9:
+    ///
+    /// ```rust
+    /// let block = table.governed(&wide).next();
+    /// assert_eq!(rt; block, Some(other_half));
+    /// ```
     pub fn governed(&self, net: &IpNet) -> Governed<'_>
         ensures maximal { IsMaximal (GovernedBy (routes_of self.now) (block net.now)) result }
         ensures shortest { IsShortest (GovernedBy (routes_of self.now) (block net.now)) result }
@@ -186,6 +205,14 @@ impl RouteTable {
 
     /// Returns whether no stored network is strictly inside this one, which need not be stored. If so, the network governs all its
     /// addresses. Does not allocate.
+    ///
+    /// # Examples
+    /// If only `wide`, 10.0.0.0/8, and `half`, 10.0.0.0/9, are stored:
+    ///
+    /// ```rust
+    /// assert!(rt; table.is_leaf(&half));
+    /// assert!(rt; !table.is_leaf(&wide));
+    /// ```
     pub fn is_leaf(&self, net: &IpNet) -> bool
         ensures leaf { IsTrue result ↔ IsLeaf self.now (block net.now) }
         ensures governed { IsTrue result → IsMaximal (GovernedBy (routes_of self.now) (block net.now)) (block net.now ∷ []) }

@@ -15,6 +15,13 @@ use ipnet::{IpNet, Ipv4Net, Ipv6Net};
 
 impl RouteTable {
     /// Returns the number of stored networks of IPv4 and of IPv6. Does not allocate.
+    ///
+    /// # Examples
+    /// If two networks of IPv4 are stored, and none of IPv6:
+    ///
+    /// ```rust
+    /// assert_eq!(rt; table.count(), (2, 0));
+    /// ```
     pub fn count(&self) -> (usize, usize)
         ensures { result ≡ (count_of Ipv4 (routes_of self.now), count_of Ipv6 (routes_of self.now)) }
     {
@@ -22,6 +29,14 @@ impl RouteTable {
     }
 
     /// Returns the routes of the networks that contain this one, itself included, shortest first. Does not allocate.
+    ///
+    /// # Examples
+    /// If `wide`, 10.0.0.0/8, has the hop 1, and is the shortest stored network that contains `host`:
+    ///
+    /// ```rust
+    /// let shortest = table.cover(&host).next();
+    /// assert_eq!(rt; shortest, Some((wide, Hop::Number(1), 100)));
+    /// ```
     pub fn cover(&self, net: &IpNet) -> Routes<'_>
         ensures { result ≡ covering (routes_of self.now) (block net.now) }
     {
@@ -33,6 +48,14 @@ impl RouteTable {
 
     /// Returns the routes of the network's family from the network on, ascending: its own, those inside it, and all later ones. The
     /// network need not be stored. Does not allocate.
+    ///
+    /// # Examples
+    /// If `wide`, 10.0.0.0/8, has the hop 1:
+    ///
+    /// ```rust
+    /// let here = table.from(&wide).next();
+    /// assert_eq!(rt; here, Some((wide, Hop::Number(1), 100)));
+    /// ```
     pub fn from(&self, net: &IpNet) -> Routes<'_>
         ensures { AreRoutes (routes_of self.now) (routes_from (routes_of self.now) (block net.now)) result }
     {
@@ -44,6 +67,14 @@ impl RouteTable {
 
     /// Returns the routes of the network's family after the network, ascending; networks inside it come after it. The network need not be
     /// stored. Does not allocate.
+    ///
+    /// # Examples
+    /// If `wide`, 10.0.0.0/8, has the hop 1, and `half`, 10.0.0.0/9, the hop 2:
+    ///
+    /// ```rust
+    /// let later = table.after(&wide).next();
+    /// assert_eq!(rt; later, Some((half, Hop::Number(2), 100)));
+    /// ```
     pub fn after(&self, net: &IpNet) -> Routes<'_>
         ensures { AreRoutes (routes_of self.now) (routes_after (routes_of self.now) (block net.now)) result }
     {

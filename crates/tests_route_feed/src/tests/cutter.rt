@@ -38,6 +38,18 @@ fn cuts(rt: &impl Abort, cutter: &mut LineCutter, piece: &str, wanted: Option<us
 }
 
 #[test]
+fn one_line(rt: HostRuntime) {
+    let mut cutter = LineCutter::new();
+    assert!(rt; cutter.feed(b'o').is_none());
+    assert!(rt; cutter.feed(b'k').is_none());
+    assert_eq!(rt; cutter.rest(), Rest::Held);
+    let line = cutter.feed(b'\n').expect(&rt, "a line");
+    assert_eq!(rt; line.text(), Some(b"ok".as_slice()));
+    assert!(rt; cutter.is_new());
+    assert_eq!(rt; line_text(b"ok"), line.text());
+}
+
+#[test]
 fn pieces(rt: HostRuntime) {
     let mut cutter = LineCutter::new();
     row_is(&rt, "at first", cutter.rest(), Rest::Empty);

@@ -6,6 +6,7 @@ use route_table::Hop;
 use std::alloc::Global;
 use std::process::Abort;
 use std::str::FromStr;
+use std::test::Fail;
 
 /// An open reply: a network, the same network again, one inside it, and one of IPv6. No closing line follows.
 const OPEN: &str = "set 10.0.0.0/8 7\nset 10.0.0.0/8 1\nset 10.64.0.0/10 2\nset 2001:db8::/32 3\n";
@@ -84,6 +85,19 @@ fn least_is(rt: &impl Abort, lines: &str, follower: &Follower, wanted: Option<&[
     if let (Some(routes), Some(wanted)) = (found, wanted) {
         routes_are(rt, routes.as_slice(), wanted);
     }
+}
+
+#[test]
+fn one_change(rt: HostRuntime) -> Result<(), Fail> {
+    let host = address(&rt, "10.1.2.3");
+    let mut follower = Follower::new(rt.alloc())?;
+    follower.line(b"set 10.0.0.0/8 1")?;
+    assert_eq!(rt; follower.hop(host), None);
+    follower.line(b"ok")?;
+    assert_eq!(rt; follower.hop(host), Some(1));
+    let least = follower.least()?.expect(&rt, "no fault");
+    assert_eq!(rt; least.len(), 1);
+    Ok(())
 }
 
 #[test]

@@ -1,10 +1,11 @@
 //! An installer with hundreds of changes, and single lines for a table.
 use crate::tests::rows::{row_is, text_is};
 use crate::tests::runs::{Mode, gives};
-use route_feed::{Counted, lead_line};
+use route_feed::{Counted, install, lead_line};
 use route_table::RouteTable;
 use std::alloc::Global;
 use std::process::Abort;
+use std::test::Fail;
 
 /// The line `first`; `count` lines of `word` for the addresses from 10.0.0.0 on, each with the hop 1; and `ok`.
 fn lines(rt: &impl Abort, alloc: Global, first: &str, word: &str, count: u16) -> String {
@@ -16,6 +17,18 @@ fn lines(rt: &impl Abort, alloc: Global, first: &str, word: &str, count: u16) ->
     }
     text.push_str("ok\n").expect(rt, "memory");
     text
+}
+
+/// A route that is installed already gets another hop.
+#[test]
+fn in_memory(rt: HostRuntime) -> Result<(), Fail> {
+    let input: &[u8] = b"have 10.0.0.0/8 1\nset 10.0.0.0/8 2\nok\nsync\n";
+    let mut reader = Counted::new(input);
+    let mut writer = Counted::new(Vec::new(rt.alloc()));
+    install(rt.alloc(), &mut reader, &mut writer)?;
+    let out = writer.into_inner();
+    text_is(&rt, "one", out.as_slice(), "install 10.0.0.0/8 2\nok\n");
+    Ok(())
 }
 
 /// Up to 256 changes are carried out one by one.

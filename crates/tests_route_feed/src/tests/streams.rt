@@ -308,6 +308,12 @@ fn ended_early(rt: HostRuntime) {
 }
 
 #[test]
+fn statuses(rt: HostRuntime) {
+    assert_eq!(rt; RunError::Memory.status(), 1);
+    assert_eq!(rt; RunError::Line.status(), 5);
+}
+
+#[test]
 fn errors(rt: HostRuntime) {
     prints(&rt, rt.alloc(), RunError::Memory, "no memory");
     prints(&rt, rt.alloc(), RunError::Read, "read fault");

@@ -344,6 +344,15 @@ fn values(rt: HostRuntime) {
     );
 }
 
+/// Lines of one word.
+#[test]
+fn plain_lines(rt: HostRuntime) {
+    assert!(rt; Reply::read(b"ok") == Ok(Reply::Close(Closing::Done)));
+    assert!(rt; Note::read(b"sync") == Ok(Note::Sync));
+    assert!(rt; Update::read(b"ok") == Ok(Update::Done));
+    assert_eq!(rt; Closing::Done.line(), b"ok\n".as_slice());
+}
+
 /// Checks the preference of an `add`.
 fn preference_is(rt: &impl Abort, text: &str, wanted: u16) {
     let read = Command::read(text.as_bytes());

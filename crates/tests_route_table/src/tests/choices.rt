@@ -20,6 +20,22 @@ fn the_next_takes_over(rt: HostRuntime) {
     assert_eq!(rt; choices.add(Hop::Drop, 200), Err(TooMany));
 }
 
+#[test]
+fn best_first(rt: HostRuntime) {
+    let mut choices: Choices<8> = Choices::one(Hop::Number(5), 100);
+    assert_eq!(rt; choices.add(Hop::Number(3), 100), Ok(()));
+    let mut all = choices.all();
+    assert_eq!(rt; all.next(), Some((Hop::Number(3), 100)));
+    assert_eq!(rt; all.next(), Some((Hop::Number(5), 100)));
+    assert_eq!(rt; all.next(), None);
+}
+
+#[test]
+fn numbers_of_hops(rt: HostRuntime) {
+    assert_eq!(rt; Hop::Number(7).number(), Some(7));
+    assert_eq!(rt; Hop::Drop.number(), None);
+}
+
 /// A list takes eight bytes per choice, and nothing more.
 #[test]
 fn bytes_of_choices(rt: HostRuntime) {

@@ -2,7 +2,7 @@
 use crate::tests::indexes::address;
 use crate::tests::tables::{net, table};
 use hop_index::HopIndex;
-use route_table::{Hop, RouteTable};
+use route_table::{Hop, HopRun, HopTable, Operation, RouteTable};
 use std::alloc::Global;
 use std::process::Abort;
 
@@ -35,6 +35,49 @@ fn listed(rt: &impl Abort, table: &RouteTable) {
     assert_eq!(rt; routes.next(), None);
 }
 
+/// How many networks there are, and which have none inside.
+fn counted(rt: &impl Abort, table: &RouteTable) {
+    let wide = net(rt, "10.0.0.0/8");
+    let half = net(rt, "10.0.0.0/9");
+    assert_eq!(rt; table.count(), (2, 0));
+    assert!(rt; table.is_leaf(&half));
+    assert!(rt; !table.is_leaf(&wide));
+}
+
+/// The first route of each walk.
+fn walked(rt: &impl Abort, table: &RouteTable) {
+    let wide = net(rt, "10.0.0.0/8");
+    let half = net(rt, "10.0.0.0/9");
+    let host = net(rt, "10.1.2.3/32");
+    let shortest = table.cover(&host).next();
+    assert_eq!(rt; shortest, Some((wide, Hop::Number(1), 100)));
+    let here = table.from(&wide).next();
+    assert_eq!(rt; here, Some((wide, Hop::Number(1), 100)));
+    let later = table.after(&wide).next();
+    assert_eq!(rt; later, Some((half, Hop::Number(2), 100)));
+}
+
+/// The routes of one network.
+fn routes_of_one(rt: &impl Abort, table: &RouteTable) {
+    let half = net(rt, "10.0.0.0/9");
+    let mut all = table.all(&half);
+    assert_eq!(rt; all.next(), Some((Hop::Number(2), 100)));
+    assert_eq!(rt; all.next(), None);
+}
+
+/// Blocks and a run of one hop.
+fn of_one_hop(rt: &impl Abort, table: &RouteTable) {
+    let wide = net(rt, "10.0.0.0/8");
+    let half = net(rt, "10.0.0.0/9");
+    let other_half = net(rt, "10.128.0.0/9");
+    let block = table.governed(&wide).next();
+    assert_eq!(rt; block, Some(other_half));
+    let run = table.flat().next_run();
+    assert_eq!(rt; run, Some(HopRun::V4(0x0a00_0000, 0x0a7f_ffff, 2)));
+    let own = table.own(2).expect(rt, "memory");
+    assert_eq!(rt; own.as_slice(), [half].as_slice());
+}
+
 /// Both halves of 10.0.0.0/8.
 fn flat_list(rt: &impl Abort, table: &RouteTable) {
     let half = net(rt, "10.0.0.0/9");
@@ -52,6 +95,15 @@ fn indexed<R: Abort + Alloc<A = Global>>(rt: &R, table: &RouteTable) {
     assert_eq!(rt; index.hop(address(&rt, "11.0.0.1")), None);
 }
 
+/// The same hops, found at once.
+fn indexed_at_once<R: Abort + Alloc<A = Global>>(rt: &R, table: &RouteTable) {
+    let index = HopIndex::from_flat(rt.alloc(), table.flat()).expect(&rt, "an index");
+    let addrs = [address(&rt, "10.1.2.3"), address(&rt, "11.0.0.1")];
+    let mut hops = [None; 2];
+    index.hops(&addrs, &mut hops);
+    assert_eq!(rt; hops, [Some(2), None]);
+}
+
 /// The half, and then it isn't there.
 fn taken_out(rt: &impl Abort, table: &mut RouteTable) {
     let half = net(rt, "10.0.0.0/9");
@@ -65,8 +117,13 @@ fn two_routes(rt: HostRuntime) {
     added(&rt, &mut table);
     found(&rt, &table);
     listed(&rt, &table);
+    counted(&rt, &table);
+    walked(&rt, &table);
+    routes_of_one(&rt, &table);
+    of_one_hop(&rt, &table);
     flat_list(&rt, &table);
     indexed(&rt, &table);
+    indexed_at_once(&rt, &table);
     taken_out(&rt, &mut table);
 }
 
@@ -84,4 +141,50 @@ fn two_in_place_of_three(rt: HostRuntime) {
     let routes = "10.0.0.0/10 2, 10.64.0.0/10 1, 10.128.0.0/9 1";
     let table = table(&rt, rt.alloc(), routes);
     least_is_two(&rt, &table);
+}
+
+/// 10.0.0.0/8 to hop 1, and its first half to hop 2, in an empty table of one hop a network.
+fn installed(rt: &impl Abort, table: &mut HopTable) {
+    let wide = net(rt, "10.0.0.0/8");
+    let half = net(rt, "10.0.0.0/9");
+    let host = net(rt, "10.1.2.3/32");
+    assert_eq!(rt; table.install(wide, Hop::Number(1)), Ok(()));
+    assert_eq!(rt; table.install(half, Hop::Number(2)), Ok(()));
+    assert_eq!(rt; table.get(&host), Some((half, Hop::Number(2), 100)));
+}
+
+/// The first operation of a change.
+fn repainted(rt: &impl Abort, table: &HopTable) {
+    let half = net(rt, "10.0.0.0/9");
+    let first = table.repaint(half, Hop::Number(1)).next();
+    assert_eq!(rt; first, Some(Operation::Remove { net: half }));
+}
+
+/// Hop 3 for all of 10.0.0.0/8, and the first operation back.
+fn overwritten(rt: &impl Abort, table: &mut HopTable) {
+    let wide = net(rt, "10.0.0.0/8");
+    let half = net(rt, "10.0.0.0/9");
+    let list = table.least().expect(rt, "a least table");
+    assert_eq!(rt; table.overwrite(wide, Hop::Number(3)), Ok(()));
+    assert_eq!(rt; table.get(&half), Some((wide, Hop::Number(3), 100)));
+    let first = table.between(list.as_slice()).next();
+    let (net, hop) = (half, Hop::Number(2));
+    assert_eq!(rt; first, Some(Operation::Install { net, hop }));
+}
+
+/// The half has this hop already.
+fn painted(rt: &impl Abort, table: &mut HopTable) {
+    let wide = net(rt, "10.0.0.0/8");
+    let half = net(rt, "10.0.0.0/9");
+    assert_eq!(rt; table.paint(half, Hop::Number(3)), Ok(()));
+    assert_eq!(rt; table.get(&half), Some((wide, Hop::Number(3), 100)));
+}
+
+#[test]
+fn two_hops(rt: HostRuntime) {
+    let mut table = HopTable::new(rt.alloc()).expect(&rt, "a table");
+    installed(&rt, &mut table);
+    repainted(&rt, &table);
+    overwritten(&rt, &mut table);
+    painted(&rt, &mut table);
 }
