@@ -29,10 +29,14 @@ impl<P: Prefix, T> PrefixMap<P, T> {
     /// Returns the keys that contain the prefix, the prefix itself included, shortest first.
     ///
     /// # Examples
-    /// In a map with `wide`, 10.0.0.0/8, and 10.1.0.0/16; `host` is 10.1.2.3/32:
+    /// In a map with 10.0.0.0/8 and two networks inside it; `net` reads a network, and `is_key` compares a key with a text:
     ///
     /// ```rust
-    /// assert_eq!(rt; map.cover_keys(&host).next(), Some(wide));
+    /// is_key(
+    ///     &rt,
+    ///     map.cover_keys(&net(&rt, "10.1.1.9/32")).next(),
+    ///     "10.0.0.0/8",
+    /// );
     /// ```
     pub fn cover_keys(&self, prefix: &P) -> CoverKeys<'_, P, T>
         requires { IsTrue (P.fits prefix.now) }
@@ -42,13 +46,6 @@ impl<P: Prefix, T> PrefixMap<P, T> {
     }
 
     /// Returns the values of the keys that contain the prefix, the prefix itself included, shortest key first.
-    ///
-    /// # Examples
-    /// In a map with the value 1 at 10.0.0.0/8, and with 10.1.0.0/16; `host` is 10.1.2.3/32:
-    ///
-    /// ```rust
-    /// assert_eq!(rt; map.cover_values(&host).next(), Some(&1));
-    /// ```
     pub fn cover_values(&self, prefix: &P) -> CoverValues<'_, P, T>
         requires { IsTrue (P.fits prefix.now) }
         ensures { result ≡ map (λ e. e.1) (where_key bits_cmp (λ k. begins k (P.bits prefix.now)) (entries self.now.entries)) }

@@ -109,7 +109,7 @@ impl<'a, P: Prefix, T> OccupiedEntry<'a, P, T> {
     /// Returns a mutable reference to the value.
     ///
     /// # Examples
-    /// `is_equal` compares:
+    /// `is_equal` checks that two values are equal:
     ///
     /// ```rust
     /// *entry.get_mut() = 10;
@@ -127,7 +127,7 @@ impl<'a, P: Prefix, T> OccupiedEntry<'a, P, T> {
     /// Stores the value, and returns the old value. Does not allocate and never fails.
     ///
     /// # Examples
-    /// If the value is 7; `is_equal` compares:
+    /// At a key with the value 7; `is_equal` checks that two values are equal:
     ///
     /// ```rust
     /// is_equal(rt, entry.insert(8), 7);
@@ -159,7 +159,7 @@ impl<'a, P: Prefix, T> OccupiedEntry<'a, P, T> {
     /// Removes the entry, and returns its value. All nodes are kept. Does not allocate.
     ///
     /// # Examples
-    /// If the value is 11; `is_equal` compares:
+    /// At a key with the value 11; `is_equal` checks that two values are equal:
     ///
     /// ```rust
     /// is_equal(rt, entry.remove(), 11);
@@ -184,7 +184,7 @@ impl<'a, P: Prefix, T> VacantEntry<'a, P, T> {
     /// Returns the prefix that `entry` was called with.
     ///
     /// # Examples
-    /// In an empty map; `net` reads a network, `vacant` matches `Entry::Vacant`, and `is_text` compares a network with a text:
+    /// In an empty map; `net` reads a network, `vacant` returns the `VacantEntry`, and `is_text` compares a network with a text:
     ///
     /// ```rust
     /// let entry = vacant(rt, map.entry(net(rt, "10.1.2.3/8")));
@@ -283,7 +283,7 @@ impl<'a, P: Prefix, T> VacantEntry<'a, P, T> {
     /// - `Memory`: as in `PrefixMap::insert`. The map is unchanged, and the value is returned.
     ///
     /// # Examples
-    /// If values are of type `u32`; `lent_is` compares the value:
+    /// In a map with values of type `u32`; `lent_is` checks the lent value:
     ///
     /// ```rust
     /// lent_is(rt, entry.default(), 0);
@@ -327,7 +327,7 @@ impl<'a, P: Prefix, T> Entry<'a, P, T> {
     /// Returns the value if the key is stored.
     ///
     /// # Examples
-    /// If the value 7 is stored; `is_equal` compares:
+    /// At a key with the value 7; `is_equal` checks that two values are equal:
     ///
     /// ```rust
     /// is_equal(rt, entry.get().copied(), Some(7));
@@ -344,7 +344,7 @@ impl<'a, P: Prefix, T> Entry<'a, P, T> {
     /// Returns a mutable reference to the value if the key is stored.
     ///
     /// # Examples
-    /// If a value is stored; `is_equal` compares:
+    /// At a stored key; `is_equal` checks that two values are equal:
     ///
     /// ```rust
     /// *entry.get_mut().expect(rt, "a value") = 5;
@@ -372,7 +372,7 @@ impl<'a, P: Prefix, T> Entry<'a, P, T> {
     /// - `Memory`: as in `PrefixMap::insert`. The map is unchanged, and the value is returned.
     ///
     /// # Examples
-    /// In an empty map; `net` reads a network. `had_is` compares the old value, and `is_equal` two values:
+    /// In an empty map; `net` reads a network, and `had_is` checks the old value:
     ///
     /// ```rust
     /// let mut entry = map.entry(net(rt, "10.9.9.9/8"));
@@ -402,7 +402,7 @@ impl<'a, P: Prefix, T> Entry<'a, P, T> {
     /// Calls `f` on the value if the key is stored.
     ///
     /// # Examples
-    /// In a map with 10.0.0.0/8; `net` reads a network, and `is_equal` compares:
+    /// In a map with 10.0.0.0/8; `net` reads a network, and `is_equal` checks that two values are equal:
     ///
     /// ```rust
     /// let entry = map.entry(net(rt, "10.0.0.0/8"));
@@ -439,7 +439,7 @@ impl<'a, P: Prefix, T> Entry<'a, P, T> {
     /// - `Memory`: as in `VacantEntry::insert`, and only if the key isn't stored.
     ///
     /// # Examples
-    /// In a map with the value 5 at 10.0.0.0/8; `net` reads a network, and `lent_is` compares the value:
+    /// In a map with the value 5 at 10.0.0.0/8; `net` reads a network, and `lent_is` checks the lent value:
     ///
     /// ```rust
     /// lent_is(rt, map.entry(net(rt, "10.0.0.0/8")).or_insert(9), 5);
@@ -495,7 +495,7 @@ impl<'a, P: Prefix, T> Entry<'a, P, T> {
     /// - `Memory`: as in `VacantEntry::insert`, and only if the key isn't stored.
     ///
     /// # Examples
-    /// If a value is stored; `lent_is` compares the value:
+    /// At a stored key; `lent_is` checks the lent value:
     ///
     /// ```rust
     /// let entry = entry.and_modify(|value| *value = 6);

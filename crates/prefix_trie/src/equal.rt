@@ -40,7 +40,7 @@ fn is_same_walk<T: PartialEq>(walk: Walk<'_, T>, other: Walk<'_, T>) -> bool
 /// Two maps are equal if they have the same keys with equal values. The number of nodes makes no difference.
 ///
 /// # Examples
-/// `map` is a map with the value 3 at 10.0.0.0/8, and `copy` is a copy of it. `holds` checks a fact:
+/// `map` has the value 3 at 10.0.0.0/8, and `copy` is a copy of it. `holds` checks a fact:
 ///
 /// ```rust
 /// holds(rt, map.insert((0x0a00_0000, 8), 4).is_ok());

@@ -97,10 +97,10 @@ impl<P: Prefix, T> PrefixMap<P, T> {
     /// Returns all keys.
     ///
     /// # Examples
-    /// In a map with `wide`, 10.0.0.0/8, and 10.1.0.0/16:
+    /// In a map with 10.0.0.0/8 and two networks inside it; `is_key` compares a key with a text:
     ///
     /// ```rust
-    /// assert_eq!(rt; map.keys().next(), Some(wide));
+    /// is_key(&rt, map.keys().next(), "10.0.0.0/8");
     /// ```
     pub fn keys(&self) -> Keys<'_, P, T>
         ensures { result ≡ keys self.now.entries }

@@ -101,7 +101,7 @@ impl<P: Prefix, T> PrefixMap<P, T> {
     /// Returns mutable references to the values of the keys after a prefix, one at a time; its own value first if `inclusive`.
     ///
     /// # Examples
-    /// In a map with 10.0.0.0/8 as `first`, and the value 22 at `second`, 10.1.0.0/16; `lent_is` compares the value:
+    /// In a map with 10.0.0.0/8 as `first`, and the value 22 at `second`, 10.1.0.0/16; `lent_is` checks the lent value:
     ///
     /// ```rust
     /// lent_is(&rt, map.iter_from_mut(&first, false).next(), 22);
@@ -126,7 +126,7 @@ impl<P: Prefix, T> PrefixMap<P, T> {
     /// Returns mutable references to the values of the keys that a prefix contains, itself included, one at a time.
     ///
     /// # Examples
-    /// In a map whose first value is 1, and that has no key inside 10.3.0.0/16; `lent_is` compares the value:
+    /// In a map with the first value 1, and no key inside 10.3.0.0/16; `holds` checks a fact, and `lent_is` the lent value:
     ///
     /// ```rust
     /// holds(&rt, map.children_mut(&(0x0a03_0000, 16)).next().is_none());

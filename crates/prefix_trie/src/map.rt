@@ -112,10 +112,9 @@ impl<P: Prefix, T> PrefixMap<P, T> {
     /// length is positive and divisible by five. Any other map has spare nodes too.
     ///
     /// # Examples
-    /// In a map with 10.0.0.0/8, and 10.1.0.0/16 as `inner`:
+    /// In a map with 10.0.0.0/8, and with the value 2 at `inner`, 10.1.0.0/16:
     ///
     /// ```rust
-    /// assert_eq!(rt; map.node_count(), 4);
     /// assert_eq!(rt; map.remove_keep_tree(&inner), Some(2));
     /// assert_eq!(rt; map.node_count(), 4);
     /// ```

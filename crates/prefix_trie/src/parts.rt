@@ -79,7 +79,7 @@ impl<P: Prefix, T, W: BorrowedWalk<T>, S: Part<P, T, W>> Clone for Parts<P, T, W
     /// A copy of the iterator from its current position. Does not allocate.
     ///
     /// # Examples
-    /// `digits` reads the rest of a walk:
+    /// The copy and the iterator return the same rest, as the digits of a number that `digits` makes:
     ///
     /// ```rust
     /// let mut entries = map.into_iter();

@@ -186,7 +186,7 @@ pub fn truncated<P: Prefix>(prefix: &P, len: u8) -> P
 /// Returns the path of a prefix.
 ///
 /// # Examples
-/// `is_equal` compares:
+/// `is_equal` checks that two values are equal:
 ///
 /// ```rust
 /// let path: Path = path_of(&(0x9b_u8, 8));

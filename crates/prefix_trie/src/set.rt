@@ -107,7 +107,7 @@ impl<P: Prefix> PrefixSet<P> {
     /// Returns the number of addresses that the members cover, each counted once, or `None` if all are covered. Does not allocate.
     ///
     /// # Examples
-    /// `halves` is an empty set of `(u128, u8)`, and `is_equal` compares:
+    /// `halves` is an empty set of `(u128, u8)`, and `is_equal` checks that two values are equal:
     ///
     /// ```rust
     /// holds(&rt, halves.insert((0, 1)).is_ok());

@@ -122,9 +122,6 @@ fn walked_in_part(rt: HostRuntime) {
     assert_eq!(rt; map.children(&inner).next(), Some((inner, &2)));
     assert_eq!(rt; map.iter_from(&wide, false).next(), Some((inner, &2)));
     assert_eq!(rt; map.cover(&host).next(), Some((wide, &1)));
-    assert_eq!(rt; map.cover_keys(&host).next(), Some(wide));
-    assert_eq!(rt; map.cover_values(&host).next(), Some(&1));
-    assert_eq!(rt; map.keys().next(), Some(wide));
     assert_eq!(rt; map.values().next(), Some(&1));
 }
 
@@ -132,7 +129,6 @@ fn walked_in_part(rt: HostRuntime) {
 fn nodes_kept(rt: HostRuntime) {
     let mut map = two_entries(&rt, rt.alloc());
     let inner = net(&rt, "10.1.0.0/16");
-    assert_eq!(rt; map.node_count(), 4);
     assert_eq!(rt; map.remove_keep_tree(&inner), Some(2));
     assert_eq!(rt; map.node_count(), 4);
     assert_eq!(rt; map.remove(&inner), None);
