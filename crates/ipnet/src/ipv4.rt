@@ -23,13 +23,6 @@ use ipnet_addr::ranges::Ipv4AddrRange;
 use std::net::Ipv4Addr;
 
 /// The network of this address alone.
-///
-/// # Examples
-/// For each address `addr`:
-///
-/// ```rust
-/// is_equal(&rt, Ipv4Net::from(addr), Ipv4Net::new_assert(addr, 32));
-/// ```
 impl From<Ipv4Addr> for Ipv4Net {
     ghost from_gives = { λ a n. n ≡ record { number = ipv4_bits a; len = 32 } };
 
