@@ -40,8 +40,7 @@ impl IpNet {
     /// Reads the network that `to_bytes` made these bytes of. Does not allocate.
     ///
     /// # Errors
-    /// - `AddrParseError`: exactly if the first byte is neither 0 nor 1, there are too few or too many bytes for the family, or the length
-    ///   is above its width.
+    /// - `AddrParseError`: exactly if the first byte is neither 0 nor 1, or `from_bytes` of the family refuses the other bytes.
     ///
     /// # Examples
     /// For the network of each `text`; `any` parses it, and `row_is` compares:
