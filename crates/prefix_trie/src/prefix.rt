@@ -28,7 +28,7 @@ use trie_core::Path;
 ///
 /// The crate `embedder` implements the trait for its struct `Region`, a `label` of 16 bits and a `len`:
 ///
-/// ```
+/// ```rust
 /// impl Prefix for Region {
 ///     type R = u16;
 ///

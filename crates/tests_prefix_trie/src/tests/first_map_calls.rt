@@ -18,9 +18,8 @@ fn stored(rt: HostRuntime) {
     assert!(rt; matches!(map.insert(wide, 3), Ok(Some(1))));
 }
 
-#[test]
-fn found(rt: HostRuntime) {
-    let map = two_entries(&rt, rt.alloc());
+/// Lookups of a network.
+fn found(rt: &impl Abort, map: &PrefixMap<Ipv4Net, u32>) {
     let inner = net(&rt, "10.1.0.0/16");
     let host = net(&rt, "10.1.2.3/32");
     assert_eq!(rt; map.get(&inner), Some(&2));
@@ -28,9 +27,8 @@ fn found(rt: HostRuntime) {
     assert_eq!(rt; map.get_lpm(&host), Some((inner, &2)));
 }
 
-#[test]
-fn searched(rt: HostRuntime) {
-    let map = two_entries(&rt, rt.alloc());
+/// Lookups of a key and of the longest and the shortest match.
+fn searched(rt: &impl Abort, map: &PrefixMap<Ipv4Net, u32>) {
     let wide = net(&rt, "10.0.0.0/8");
     let inner = net(&rt, "10.1.0.0/16");
     let host = net(&rt, "10.1.2.3/32");
@@ -42,9 +40,8 @@ fn searched(rt: HostRuntime) {
     assert_eq!(rt; map.get_spm_prefix(&host), Some(wide));
 }
 
-#[test]
-fn contained(rt: HostRuntime) {
-    let map = two_entries(&rt, rt.alloc());
+/// Whether keys are stored, covered, or have none inside.
+fn contained(rt: &impl Abort, map: &PrefixMap<Ipv4Net, u32>) {
     let wide = net(&rt, "10.0.0.0/8");
     let inner = net(&rt, "10.1.0.0/16");
     let host = net(&rt, "10.1.2.3/32");
@@ -54,45 +51,25 @@ fn contained(rt: HostRuntime) {
     assert!(rt; map.is_leaf(&inner) && !map.is_leaf(&wide));
 }
 
-#[test]
-fn counted(rt: HostRuntime) {
-    let mut map = two_entries(&rt, rt.alloc());
-    assert_eq!(rt; map.len(), 2);
-    assert_eq!(rt; map.address_count(), Some(1 << 24));
-    map.clear();
-    assert!(rt; map.is_empty());
-}
-
-#[test]
-fn written(rt: HostRuntime) {
-    let mut map = two_entries(&rt, rt.alloc());
-    let inner = net(&rt, "10.1.0.0/16");
-    let host = net(&rt, "10.1.2.3/32");
-    *map.get_mut(&inner).expect(&rt, "a value") = 5;
-    assert_eq!(rt; map.get(&inner), Some(&5));
-    *map.get_lpm_value_mut(&host).expect(&rt, "a match") = 6;
-    assert_eq!(rt; map.get(&inner), Some(&6));
-    *map.entry(inner).or_insert(0).expect(&rt, "memory") = 7;
-    assert_eq!(rt; map.get(&inner), Some(&7));
-}
-
-#[test]
-fn stored_if_absent(rt: HostRuntime) {
-    let mut map = two_entries(&rt, rt.alloc());
-    let host = net(&rt, "10.1.2.3/32");
-    let value = *map.entry(host).or_insert_with(|| 3).expect(&rt, "memory");
-    assert_eq!(rt; value, 3);
-}
-
-#[test]
-fn walked(rt: HostRuntime) {
-    let map = two_entries(&rt, rt.alloc());
+/// A walk over all entries.
+fn walked(rt: &impl Abort, map: &PrefixMap<Ipv4Net, u32>) {
     let wide = net(&rt, "10.0.0.0/8");
     let inner = net(&rt, "10.1.0.0/16");
     let mut entries = map.iter();
     assert_eq!(rt; entries.next(), Some((wide, &1)));
     assert_eq!(rt; entries.next(), Some((inner, &2)));
     assert!(rt; entries.next().is_none());
+}
+
+/// The first entry of each walk.
+fn walked_in_part(rt: &impl Abort, map: &PrefixMap<Ipv4Net, u32>) {
+    let wide = net(&rt, "10.0.0.0/8");
+    let inner = net(&rt, "10.1.0.0/16");
+    let host = net(&rt, "10.1.2.3/32");
+    assert_eq!(rt; map.children(&inner).next(), Some((inner, &2)));
+    assert_eq!(rt; map.iter_from(&wide, false).next(), Some((inner, &2)));
+    assert_eq!(rt; map.cover(&host).next(), Some((wide, &1)));
+    assert_eq!(rt; map.values().next(), Some(&1));
 }
 
 #[test]
@@ -105,29 +82,42 @@ fn walked_by_for(rt: HostRuntime) {
     assert_eq!(rt; most, 2);
 }
 
-#[test]
-fn taken_out(rt: HostRuntime) {
-    let mut map = two_entries(&rt, rt.alloc());
+/// The numbers of keys and addresses.
+fn counted(rt: &impl Abort, map: &mut PrefixMap<Ipv4Net, u32>) {
+    assert_eq!(rt; map.len(), 2);
+    assert_eq!(rt; map.address_count(), Some(1 << 24));
+    map.clear();
+    assert!(rt; map.is_empty());
+}
+
+/// Values that are written through references.
+fn written(rt: &impl Abort, map: &mut PrefixMap<Ipv4Net, u32>) {
+    let inner = net(&rt, "10.1.0.0/16");
+    let host = net(&rt, "10.1.2.3/32");
+    *map.get_mut(&inner).expect(&rt, "a value") = 5;
+    assert_eq!(rt; map.get(&inner), Some(&5));
+    *map.get_lpm_value_mut(&host).expect(&rt, "a match") = 6;
+    assert_eq!(rt; map.get(&inner), Some(&6));
+    *map.entry(inner).or_insert(0).expect(&rt, "memory") = 7;
+    assert_eq!(rt; map.get(&inner), Some(&7));
+}
+
+/// An entry whose value is made if it is absent.
+fn stored_if_absent(rt: &impl Abort, map: &mut PrefixMap<Ipv4Net, u32>) {
+    let host = net(&rt, "10.1.2.3/32");
+    let value = *map.entry(host).or_insert_with(|| 3).expect(&rt, "memory");
+    assert_eq!(rt; value, 3);
+}
+
+/// A key that is removed twice.
+fn taken_out(rt: &impl Abort, map: &mut PrefixMap<Ipv4Net, u32>) {
     let inner = net(&rt, "10.1.0.0/16");
     assert_eq!(rt; map.remove(&inner), Some(2));
     assert_eq!(rt; map.remove(&inner), None);
 }
 
-#[test]
-fn walked_in_part(rt: HostRuntime) {
-    let map = two_entries(&rt, rt.alloc());
-    let wide = net(&rt, "10.0.0.0/8");
-    let inner = net(&rt, "10.1.0.0/16");
-    let host = net(&rt, "10.1.2.3/32");
-    assert_eq!(rt; map.children(&inner).next(), Some((inner, &2)));
-    assert_eq!(rt; map.iter_from(&wide, false).next(), Some((inner, &2)));
-    assert_eq!(rt; map.cover(&host).next(), Some((wide, &1)));
-    assert_eq!(rt; map.values().next(), Some(&1));
-}
-
-#[test]
-fn nodes_kept(rt: HostRuntime) {
-    let mut map = two_entries(&rt, rt.alloc());
+/// Nodes that stay and nodes that go.
+fn nodes_kept(rt: &impl Abort, map: &mut PrefixMap<Ipv4Net, u32>) {
     let inner = net(&rt, "10.1.0.0/16");
     assert_eq!(rt; map.remove_keep_tree(&inner), Some(2));
     assert_eq!(rt; map.node_count(), 4);
@@ -135,17 +125,36 @@ fn nodes_kept(rt: HostRuntime) {
     assert_eq!(rt; map.node_count(), 2);
 }
 
-#[test]
-fn taken_out_inside(rt: HostRuntime) {
-    let mut map = two_entries(&rt, rt.alloc());
+/// All keys inside a network, removed.
+fn taken_out_inside(rt: &impl Abort, map: &mut PrefixMap<Ipv4Net, u32>) {
     let inner = net(&rt, "10.1.0.0/16");
     map.remove_children(&inner);
     assert_eq!(rt; map.len(), 1);
 }
 
-#[test]
-fn kept_if_asked(rt: HostRuntime) {
-    let mut map = two_entries(&rt, rt.alloc());
+/// The entries that a closure keeps.
+fn kept_if_asked(rt: &impl Abort, map: &mut PrefixMap<Ipv4Net, u32>) {
     map.retain(|_, value| *value > 1);
     assert_eq!(rt; map.len(), 1);
+}
+
+#[test]
+fn reads(rt: HostRuntime) {
+    let map = two_entries(&rt, rt.alloc());
+    found(&rt, &map);
+    searched(&rt, &map);
+    contained(&rt, &map);
+    walked(&rt, &map);
+    walked_in_part(&rt, &map);
+}
+
+#[test]
+fn changes(rt: HostRuntime) {
+    counted(&rt, &mut two_entries(&rt, rt.alloc()));
+    written(&rt, &mut two_entries(&rt, rt.alloc()));
+    stored_if_absent(&rt, &mut two_entries(&rt, rt.alloc()));
+    taken_out(&rt, &mut two_entries(&rt, rt.alloc()));
+    nodes_kept(&rt, &mut two_entries(&rt, rt.alloc()));
+    taken_out_inside(&rt, &mut two_entries(&rt, rt.alloc()));
+    kept_if_asked(&rt, &mut two_entries(&rt, rt.alloc()));
 }

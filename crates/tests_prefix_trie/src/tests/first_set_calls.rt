@@ -19,18 +19,16 @@ fn stored(rt: HostRuntime) {
     assert_eq!(rt; set.insert((0x0a01_0203, 16)), Ok(false));
 }
 
-#[test]
-fn found(rt: HostRuntime) {
-    let set = two_members(&rt, rt.alloc());
+/// Lookups of a member and of the longest match.
+fn found(rt: &impl Abort, set: &PrefixSet<(u32, u8)>) {
     let (inner, wide) = ((0x0a01_0000, 16), (0x0a00_0000, 8));
     assert_eq!(rt; set.get(&(0x0a01_0203, 16)), Some(inner));
     assert_eq!(rt; set.get_lpm(&(0x0a01_0203, 32)), Some(inner));
     assert_eq!(rt; set.get_lpm(&(0x0a09_0000, 16)), Some(wide));
 }
 
-#[test]
-fn contained(rt: HostRuntime) {
-    let set = two_members(&rt, rt.alloc());
+/// Whether members are stored or covered, and the shortest match.
+fn contained(rt: &impl Abort, set: &PrefixSet<(u32, u8)>) {
     let wide = (0x0a00_0000, 8);
     let host = (0x0a01_0203, 32);
     assert!(rt; set.contains(&(0x0a01_0203, 16)) && !set.contains(&host));
@@ -38,9 +36,8 @@ fn contained(rt: HostRuntime) {
     assert_eq!(rt; set.get_spm(&host), Some(wide));
 }
 
-#[test]
-fn walked(rt: HostRuntime) {
-    let set = two_members(&rt, rt.alloc());
+/// A walk over all members.
+fn walked(rt: &impl Abort, set: &PrefixSet<(u32, u8)>) {
     let (inner, wide) = ((0x0a01_0000, 16), (0x0a00_0000, 8));
     let mut members = set.iter();
     assert_eq!(rt; members.next(), Some(wide));
@@ -48,41 +45,53 @@ fn walked(rt: HostRuntime) {
     assert_eq!(rt; members.next(), None);
 }
 
-#[test]
-fn taken_out(rt: HostRuntime) {
-    let mut set = two_members(&rt, rt.alloc());
-    let wide = (0x0a00_0000, 8);
-    assert!(rt; set.remove(&wide));
-    assert!(rt; !set.remove(&wide));
-}
-
-#[test]
-fn walked_in_part(rt: HostRuntime) {
-    let set = two_members(&rt, rt.alloc());
+/// The first member of each walk.
+fn walked_in_part(rt: &impl Abort, set: &PrefixSet<(u32, u8)>) {
     let (inner, wide) = ((0x0a01_0000, 16), (0x0a00_0000, 8));
     assert_eq!(rt; set.children(&inner).next(), Some(inner));
     assert_eq!(rt; set.iter_from(&wide, false).next(), Some(inner));
     assert_eq!(rt; set.cover(&(0x0a01_0203, 32)).next(), Some(wide));
 }
 
-#[test]
-fn counted(rt: HostRuntime) {
-    let mut set = two_members(&rt, rt.alloc());
+/// A member that is removed twice.
+fn taken_out(rt: &impl Abort, set: &mut PrefixSet<(u32, u8)>) {
+    let wide = (0x0a00_0000, 8);
+    assert!(rt; set.remove(&wide));
+    assert!(rt; !set.remove(&wide));
+}
+
+/// The number of members.
+fn counted(rt: &impl Abort, set: &mut PrefixSet<(u32, u8)>) {
     assert_eq!(rt; set.len(), 2);
     set.clear();
     assert!(rt; set.is_empty());
 }
 
-#[test]
-fn taken_out_inside(rt: HostRuntime) {
-    let mut set = two_members(&rt, rt.alloc());
+/// All members inside a network, removed.
+fn taken_out_inside(rt: &impl Abort, set: &mut PrefixSet<(u32, u8)>) {
     set.remove_children(&(0x0a01_0000, 16));
     assert_eq!(rt; set.len(), 1);
 }
 
-#[test]
-fn kept_if_asked(rt: HostRuntime) {
-    let mut set = two_members(&rt, rt.alloc());
+/// The members that a closure keeps.
+fn kept_if_asked(rt: &impl Abort, set: &mut PrefixSet<(u32, u8)>) {
     set.retain(|member| member.1 > 8);
     assert_eq!(rt; set.len(), 1);
+}
+
+#[test]
+fn reads(rt: HostRuntime) {
+    let set = two_members(&rt, rt.alloc());
+    found(&rt, &set);
+    contained(&rt, &set);
+    walked(&rt, &set);
+    walked_in_part(&rt, &set);
+}
+
+#[test]
+fn changes(rt: HostRuntime) {
+    taken_out(&rt, &mut two_members(&rt, rt.alloc()));
+    counted(&rt, &mut two_members(&rt, rt.alloc()));
+    taken_out_inside(&rt, &mut two_members(&rt, rt.alloc()));
+    kept_if_asked(&rt, &mut two_members(&rt, rt.alloc()));
 }
