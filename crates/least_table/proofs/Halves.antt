@@ -1,9 +1,9 @@
 -- The fewest routes inside a block, from those inside its halves.
 use Rattle.std.proofs.Common.{◌≡◌, ◌≢◌, ℕ, zero, suc, ◌+◌, ◌≤◌, Bool, true, false, cond, List, [], ◌∷◌, length, Option, refl, sym, ap, ◌∙◌, subst, arith, inl, inr, ◌⊎◌, add-one, ⊎_elim}
-use Rattle.least_table.specs.Tables.{Absent, hop_under, Gives, IsFewest, half_of}
+use Rattle.least_table.specs.Tables.{Absent, hop_under, Gives, IsFewest, half, half_of, own, passed}
 use Rattle.ipnet_blocks.specs.Halves.{IsLesser}
 use Rattle.least_table.specs.Laws.{HostLaw, HalvesLaw}
-use Rattle.least_table.proofs.Split.{half, own, passed, own_count, hop-half, own-none, longest-empty, length-halves, IsTable-half, joined, half-joined, own_count-absent, IsTable-joined, Absent-joined, length-joined}
+use Rattle.least_table.proofs.Split.{own_count, hop-half, own-none, longest-empty, length-halves, IsTable-half, joined, half-joined, own_count-absent, IsTable-joined, Absent-joined, length-joined}
 
 -- a table's halves give the hops of the halves, under what its own route hands down
 pub Gives-half : (w : ℕ) (h : List Bool → Option ℕ) (s : Option ℕ) (t : List (List Bool × Option ℕ)) → Gives (suc w) h s t → (b : Bool) → Gives w (half_of b h) (passed s (own t)) (half t b)

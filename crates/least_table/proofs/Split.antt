@@ -3,28 +3,8 @@ use Rattle.std.proofs.Common.{◌≡◌, ℕ, suc, ◌+◌, Bool, true, false, c
 use Rattle.std.proofs.lemmas.Bool.{ltb-true, ltb-false, lt-ltb, le-ltb, cases_Bool}
 use Rattle.std.proofs.lemmas.List.{length-map}
 use Rattle.ipnet_blocks.specs.BitStrings.{begins}
-use Rattle.least_table.specs.Tables.{Absent, IsTable, longer, longest, hop_of, hop_under}
+use Rattle.least_table.specs.Tables.{Absent, IsTable, half, longer, longest, hop_of, hop_under, own, passed}
 use Rattle.least_table.specs.Trees.{inside}
-
--- the routes inside the half that begins with b, with that bit left out
-abbrev pub half : List (List Bool × Option ℕ) → Bool → List (List Bool × Option ℕ)
-half [] b = []
-half (([], k) ∷ t) b = half t b
-half ((false ∷ c, k) ∷ t) false = (c, k) ∷ half t false
-half ((false ∷ c, k) ∷ t) true = half t true
-half ((true ∷ c, k) ∷ t) false = half t false
-half ((true ∷ c, k) ∷ t) true = (c, k) ∷ half t true
-
--- what stands at the empty block
-abbrev pub own : List (List Bool × Option ℕ) → Option (Option ℕ)
-own [] = None
-own (([], k) ∷ t) = Some k
-own ((b ∷ c, k) ∷ t) = own t
-
--- what t's own route hands down, and s where it has none
-abbrev pub passed : Option ℕ → Option (Option ℕ) → Option ℕ
-passed s None = s
-passed s (Some k) = k
 
 -- how many routes stand at the empty block
 abbrev pub own_count : List (List Bool × Option ℕ) → ℕ

@@ -4,14 +4,14 @@ use Rattle.std.proofs.lemmas.List.{map-append, map-id}
 use Rattle.least_table.specs.Trees.{inside, within}
 
 -- the routes of a block inside another
-pub within_within : (b ds : List Bool) (t : List (List Bool × Option ℕ)) → within b (within ds t) ≡ within (b ++ ds) t
+pub within_within : {K : Type 0} (b ds : List Bool) (t : List (List Bool × K)) → within b (within ds t) ≡ within (b ++ ds) t
 within_within b ds [] = refl
 within_within b ds (r ∷ t) = ap₂ (λ x y. (x, r.1) ∷ y) (sym (append_assoc b ds r.0)) (within_within b ds t)
 
-pub within-halves : (b : List Bool) (l r : List (List Bool × Option ℕ)) → within b (inside false l ++ inside true r) ≡ within (b ++ false ∷ []) l ++ within (b ++ true ∷ []) r
+pub within-halves : {K : Type 0} (b : List Bool) (l r : List (List Bool × K)) → within b (inside false l ++ inside true r) ≡ within (b ++ false ∷ []) l ++ within (b ++ true ∷ []) r
 within-halves b l r = map-append _ (inside false l) (inside true r) ∙ ap₂ (λ x y. x ++ y) (within_within b (false ∷ []) l) (within_within b (true ∷ []) r)
 
-pub within-whole : (t : List (List Bool × Option ℕ)) → within [] t ≡ t
+pub within-whole : {K : Type 0} (t : List (List Bool × K)) → within [] t ≡ t
 within-whole = map-id
 
 pub if_ok_map : {T E : Type 0} {P Q : T → Type 0} (r : Result T E) → ((x : T) → P x → Q x) → IfOk r P → IfOk r Q

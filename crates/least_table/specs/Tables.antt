@@ -1,5 +1,5 @@
 -- Tables of routes over bit strings, the hop of an address, and least tables.
-use Rattle.std.specs.Prelude.{◌≡◌, ◌≢◌, ℕ, ◌≤◌, Bool, cond, List, [], ◌∷◌, length, nat_lt, Option, Some, None, ⊤}
+use Rattle.std.specs.Prelude.{◌≡◌, ◌≢◌, ℕ, ◌≤◌, Bool, true, false, cond, List, [], ◌∷◌, length, nat_lt, Option, Some, None, ⊤}
 use Rattle.ipnet_blocks.specs.BitStrings.{begins}
 
 -- no route of t is at the block b
@@ -53,3 +53,23 @@ pub record IsFewest (w : ℕ) (h : List Bool → Option ℕ) (s : Option ℕ) (n
 -- the hops of the half of a block that has the bit b first
 abbrev pub half_of : Bool → (List Bool → Option ℕ) → List Bool → Option ℕ
 half_of b h x = h (b ∷ x)
+
+-- the routes inside the half that has the bit b first, without this bit
+abbrev pub half : List (List Bool × Option ℕ) → Bool → List (List Bool × Option ℕ)
+half [] b = []
+half (([], k) ∷ t) b = half t b
+half ((false ∷ c, k) ∷ t) false = (c, k) ∷ half t false
+half ((false ∷ c, k) ∷ t) true = half t true
+half ((true ∷ c, k) ∷ t) false = half t false
+half ((true ∷ c, k) ∷ t) true = (c, k) ∷ half t true
+
+-- the hop of the route of the whole block, if it has a route
+abbrev pub own : List (List Bool × Option ℕ) → Option (Option ℕ)
+own [] = None
+own (([], k) ∷ t) = Some k
+own ((b ∷ c, k) ∷ t) = own t
+
+-- what the halves inherit: the hop of the block's own route, or s if it has none
+abbrev pub passed : Option ℕ → Option (Option ℕ) → Option ℕ
+passed s None = s
+passed s (Some k) = k

@@ -36,11 +36,11 @@ IsPlan w h (Fork hops l r) = (v : ℕ) × (w ≡ suc v) × AreMerged (best l) (b
 IsPlan w h (Skip k ds t) = (v : ℕ) × (w ≡ length ds + v) × CanSkip (best t) k ds × OneOutside (length ds + v) h ds k × IsPlan v (inner_of ds h) t
 
 -- the routes of a half, as routes of the block
-abbrev pub inside : Bool → List (List Bool × Option ℕ) → List (List Bool × Option ℕ)
+abbrev pub inside : {K : Type 0} → Bool → List (List Bool × K) → List (List Bool × K)
 inside b t = map (λ r. (b ∷ r.0, r.1)) t
 
 -- the routes of a block, as routes of the whole
-abbrev pub within : List Bool → List (List Bool × Option ℕ) → List (List Bool × Option ℕ)
+abbrev pub within : {K : Type 0} → List Bool → List (List Bool × K) → List (List Bool × K)
 within b t = map (λ r. (b ++ r.0, r.1)) t
 
 -- the routes of the tree if its block inherits s

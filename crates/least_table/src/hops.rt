@@ -9,7 +9,7 @@ use std::slice;
 
 /// A set of hops. A set of one or two hops needs no allocation.
 #[derive(Drop)]
-pub(crate) enum Hops {
+pub enum Hops {
     /// The set of one hop.
     One(Option<u32>),
     /// The set of two hops, ascending.
@@ -31,7 +31,7 @@ impl Hops {
     }
 
     /// Returns the hops, ascending.
-    pub(crate) fn as_slice(&self) -> &[Option<u32>]
+    pub fn as_slice(&self) -> &[Option<u32>]
         ensures { result.now ≡ members self.now }
     {
         match self {
@@ -43,7 +43,7 @@ impl Hops {
 }
 
 /// Whether two hops are the same.
-pub(crate) fn is_same(a: Option<u32>, b: Option<u32>) -> bool
+pub fn is_same(a: Option<u32>, b: Option<u32>) -> bool
     ensures { result ≡ same_hop a b }
 {
     match (a, b) {
@@ -54,7 +54,7 @@ pub(crate) fn is_same(a: Option<u32>, b: Option<u32>) -> bool
 }
 
 /// The first of the hops, or none if the list is empty.
-pub(crate) fn first(hops: &[Option<u32>]) -> Option<u32>
+pub fn first(hops: &[Option<u32>]) -> Option<u32>
     ensures { result ≡ first_of hops.now }
 {
     match hops {
@@ -84,7 +84,7 @@ pub(crate) fn others(hops: &[Option<u32>]) -> &[Option<u32>]
 }
 
 /// Whether the list contains the hop.
-pub(crate) fn is_among(hops: &[Option<u32>], hop: Option<u32>) -> bool
+pub fn is_among(hops: &[Option<u32>], hop: Option<u32>) -> bool
     ensures { result ≡ holds hops.now hop }
 {
     hops.iter().any(|other| is_same(hop, *other))
@@ -189,11 +189,7 @@ fn merge_lists(alloc: Global, low: &[Option<u32>], high: &[Option<u32>]) -> Resu
 
 /// The hops in both lists, or all hops of both lists if they have none in common. Most lists have one hop: then it does not allocate if
 /// the other list contains this hop, or has one hop too.
-pub(crate) fn merge(
-    alloc: Global,
-    low: &[Option<u32>],
-    high: &[Option<u32>],
-) -> Result<Hops, AllocError>
+pub fn merge(alloc: Global, low: &[Option<u32>], high: &[Option<u32>]) -> Result<Hops, AllocError>
     requires low_rises { IsRising low.now }
     requires high_rises { IsRising high.now }
     ensures merged { IfOk result (λ hops. AreMerged low.now high.now (members hops)) }

@@ -2,7 +2,7 @@
 #![tactic(auto)]
 
 mod bits;
-mod hops;
+pub mod hops;
 mod kept_sets;
 pub mod laws;
 mod plan;

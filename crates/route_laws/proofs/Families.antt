@@ -26,7 +26,7 @@ families_apart e = let r = ap rank e in absurd (omega arith)
 family_tested : (a b : Block) → is_inside a b ≡ true → a.family ≡ b.family
 family_tested a b e = family_from_test a.family b.family (and_parts _ _ (and_parts _ _ e).0).0
 
-apart : (b : Block) → is_inside b (family_block Ipv4) ≡ true → is_inside b (family_block Ipv6) ≡ true → ⊥
+pub apart : (b : Block) → is_inside b (family_block Ipv4) ≡ true → is_inside b (family_block Ipv6) ≡ true → ⊥
 apart b e f = families_apart (sym (family_tested b (family_block Ipv4) e) ∙ family_tested b (family_block Ipv6) f)
 
 separate : (x : Address) → HasAddress (family_block Ipv4) x → HasAddress (family_block Ipv6) x → ⊥

@@ -29,5 +29,6 @@ pub mod Painted
 pub mod Repaints
 pub mod Handed
 pub mod Batches
+pub mod Nearest
 pub mod Runs
 pub mod OperationRows

@@ -10,6 +10,7 @@ pub mod Overwritten
 pub mod Pages
 pub mod Operations
 pub mod Batches
+pub mod Nearest
 pub mod Runs
 pub mod Laws
 pub mod OperationLaws

@@ -1,4 +1,5 @@
 //! Theorems about the operations that turn one table into another.
+ghost use Rattle.route_laws.specs.Nearest.{FewestIsNearest, LeastIsNearest, NearestIsFewest, NearestIsHitless, NearestIsNoMore};
 ghost use Rattle.route_laws.specs.OperationLaws.{BatchIsHitless, BatchReaches, BetweenIsFewest, BetweenIsHitless, BetweenReaches, FewOperations, GivenReaches, GivesHitless, GivesWhatItSays, HandedByNone, HandedByParent, HopsOfBatch, HopsOfPainted, KeepsHops, PaintedIsTable, SyncIsLeast, SyncIsUnseen, ToldAreChanges};
 
 /// The operations between two tables turn the first into the second. On the way each address changes its hop at most once, from its
@@ -21,6 +22,18 @@ pub fn batches()
     ensures hops_after { HopsOfBatch }
     ensures hitless { BatchIsHitless }
     ensures told { ToldAreChanges }
+{}
+
+/// Tables with given hops that are nearest to a table: no table with these hops is fewer operations away. The operations that turn a
+/// table into a nearest one are the fewest of all that give each address its hop. All fewest operations lead to nearest tables. On the
+/// way each address changes its hop at most once. The same changes one after another take no fewer operations. A table is least exactly
+/// if it is nearest to the empty table.
+pub fn nearest()
+    ensures fewest { NearestIsFewest }
+    ensures nearest { FewestIsNearest }
+    ensures hitless { NearestIsHitless }
+    ensures no_more { NearestIsNoMore }
+    ensures least { LeastIsNearest }
 {}
 
 /// A table that is kept installed, event by event. An event is a route that is installed already, a group of changes, or a group of

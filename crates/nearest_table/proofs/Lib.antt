@@ -1,0 +1,15 @@
+pub mod Distances
+pub mod Halves
+pub mod Owns
+pub mod Merges
+pub mod Locals
+pub mod Trees
+pub mod TreeEdits
+pub mod Settles
+pub mod Builds
+pub mod NewOrders
+pub mod Puts
+pub mod Coverings
+pub mod Asked
+pub mod Rows
+pub mod Stays

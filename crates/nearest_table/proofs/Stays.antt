@@ -1,0 +1,90 @@
+-- Plans of blocks by those of their halves.
+use Rattle.std.proofs.Common.{◌≡◌, ℕ, suc, Bool, true, false, List, [], ◌∷◌, length, IfSome, Option, Some, None, refl, sym, ap, ◌∙◌, subst, arith}
+use Rattle.nearest_table.specs.Hops.{Any, Of, AreMerged}
+use Rattle.nearest_table.specs.InnerPlans.{IsFork, IsJoined, OfHalves, tree_of}
+use Rattle.nearest_table.specs.Plans.{Stay, best, IsPlan}
+use Rattle.nearest_table.specs.Blocks.{Covers}
+use Rattle.least_table.specs.Tables.{half, half_of, hop_under, own, passed}
+use Rattle.nearest_table.specs.Wanted.{hops_of}
+use Rattle.nearest_table.specs.declared.plans.Plan.{Plan, Fork', Held', One, Idle}
+use Rattle.nearest_table.proofs.Coverings.{half_covered, half_free}
+use Rattle.least_table.proofs.Split.{hop-half}
+use Rattle.nearest_table.proofs.Trees.{covered}
+
+module _ (v : ℕ) (h : List Bool → Option ℕ) (t : List (List Bool × Option ℕ)) (none : own t ≡ None) where
+  -- a half that has its new hops where k is handed down
+  abbrev Same : Bool → Option ℕ → Type 0
+  Same b k = (x : List Bool) → length x ≡ v → half_of b h x ≡ hop_under k (half t b) x
+
+  up : (b : Bool) (k : Option ℕ) → Same b k → (x : List Bool) → length x ≡ v → h (b ∷ x) ≡ hop_under k t (b ∷ x)
+  up b k same x l = same x l ∙ sym (hop-half k t b x ∙ ap (λ o. hop_under (passed k o) (half t b) x) none)
+
+  both : (k : Option ℕ) → Same false k → Same true k → (x : List Bool) → length x ≡ suc v → h x ≡ hop_under k t x
+  both k low high [] l = absurd (omega (arith, l))
+  both k low high (false ∷ x) l = up false k low x (omega (arith, l))
+  both k low high (true ∷ x) l = up true k high x (omega (arith, l))
+
+  -- a half that is covered has them whatever is handed down
+  turn : (b : Bool) (j k : Option ℕ) → Same b j → Covers v (half t b) → Same b k
+  turn b j k same c x l = same x l ∙ covered j k (half t b) x (c x l)
+
+  covers : Covers v (half t false) → Covers v (half t true) → Covers (suc v) t
+  covers a b [] l f = absurd (omega (arith, l))
+  covers a b (false ∷ x) l f = a x (omega (arith, l)) (half_covered t false x f)
+  covers a b (true ∷ x) l f = b x (omega (arith, l)) (half_covered t true x f)
+
+same_one : (j k : Option ℕ) → j ∷ [] ≡ k ∷ [] → k ≡ j
+same_one j k e = cc
+
+idle_idle : OfHalves (Stay Any) (Stay Any) Idle
+idle_idle v h t table none l r = (l.0, (both v h t none l.0 l.1.0 (turn v h t none true r.0 l.0 r.1.0 r.1.1), covers v h t none l.1.1 r.1.1))
+
+one_idle : (k : Option ℕ) → OfHalves (Stay (Of (k ∷ []))) (Stay Any) (One k)
+one_idle k v h t table none l r =
+    let e : l.0 ≡ k = same_one k l.0 l.1.0 in
+    (k, (refl, both v h t none k (subst (Same v h t none false) e l.1.1) (turn v h t none true r.0 k r.1.0 r.1.1), false ∷ l.1.2, ap suc l.1.3, half_free t false l.1.2 none l.1.4))
+
+idle_one : (k : Option ℕ) → OfHalves (Stay Any) (Stay (Of (k ∷ []))) (One k)
+idle_one k v h t table none l r =
+    let e : r.0 ≡ k = same_one k r.0 r.1.0 in
+    (k, (refl, both v h t none k (turn v h t none false l.0 k l.1.0 l.1.1) (subst (Same v h t none true) e r.1.1), true ∷ r.1.2, ap suc r.1.3, half_free t true r.1.2 none r.1.4))
+
+one_one : (k : Option ℕ) → OfHalves (Stay (Of (k ∷ []))) (Stay (Of (k ∷ []))) (One k)
+one_one k v h t table none l r =
+    let d : l.0 ≡ k = same_one k l.0 l.1.0 in
+    let e : r.0 ≡ k = same_one k r.0 r.1.0 in
+    (k, (refl, both v h t none k (subst (Same v h t none false) d l.1.1) (subst (Same v h t none true) e r.1.1), false ∷ l.1.2, ap suc l.1.3, half_free t false l.1.2 none l.1.4))
+
+-- the same as the code stores them
+pub stay_idle_idle : (low high : Plan) → low ≡ Idle → high ≡ Idle → IsJoined (tree_of low) (tree_of high) Idle
+stay_idle_idle low high e f = (subst (λ p. OfHalves (tree_of p) (tree_of high) Idle) (sym e) (subst (λ q. OfHalves (Stay Any) (tree_of q) Idle) (sym f) idle_idle), tt)
+
+pub stay_one_idle : (low high : Plan) (k : Option ℕ) → low ≡ One k → high ≡ Idle → IsJoined (tree_of low) (tree_of high) (One k)
+stay_one_idle low high k e f = (subst (λ p. OfHalves (tree_of p) (tree_of high) (One k)) (sym e) (subst (λ q. OfHalves (Stay (Of (k ∷ []))) (tree_of q) (One k)) (sym f) (one_idle k)), (tt, tt))
+
+pub stay_idle_one : (low high : Plan) (k : Option ℕ) → low ≡ Idle → high ≡ One k → IsJoined (tree_of low) (tree_of high) (One k)
+stay_idle_one low high k e f = (subst (λ p. OfHalves (tree_of p) (tree_of high) (One k)) (sym e) (subst (λ q. OfHalves (Stay Any) (tree_of q) (One k)) (sym f) (idle_one k)), (tt, tt))
+
+pub stay_one_one : (low high p : Plan) (j k : Option ℕ) → low ≡ One j → high ≡ One k → j ≡ k → p ≡ One j → IsJoined (tree_of low) (tree_of high) p
+stay_one_one low high p j k e f g is =
+    subst (IsJoined (tree_of low) (tree_of high)) (sym is) (subst (λ p. OfHalves (tree_of p) (tree_of high) (One j)) (sym e) (subst (λ q. OfHalves (Stay (Of (j ∷ []))) (tree_of q) (One j)) (sym (f ∙ ap One (sym g))) (one_one j)), (tt, tt))
+
+pub fork_halves : (low high p : Plan) → IsFork low high p → IsJoined (tree_of low) (tree_of high) p
+fork_halves low high Idle is = absurd is
+fork_halves low high (One k) is = absurd is
+fork_halves low high (Held' k u p) is = absurd is
+fork_halves low high (Fork' hops u l q r) is = (
+  (λ v h t table none a b. (
+    v,
+    refl,
+    none,
+    subst (λ x. AreMerged (best (tree_of x)) (best (tree_of r)) (hops_of hops)) (sym is.0) (subst (λ y. AreMerged (best (tree_of low)) (best (tree_of y)) (hops_of hops)) (sym is.1) is.2),
+    subst (λ x. IsPlan v (half_of false h) (half t false) (tree_of x)) (sym is.0) a,
+    subst (λ x. IsPlan v (half_of true h) (half t true) (tree_of x)) (sym is.1) b,
+  )),
+  is.3,
+)
+
+pub if_some_map : {X : Type 0} {P Q : X → Type 0} (o : Option X) → ((x : X) → P x → Q x) → IfSome o P → IfSome o Q
+if_some_map None f p = p
+if_some_map (Some x) f p = f x p

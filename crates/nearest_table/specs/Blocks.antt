@@ -1,0 +1,54 @@
+-- The routes inside a block, and those around it.
+use Rattle.std.specs.Prelude.{◌≡◌, ◌≢◌, ℕ, Bool, true, false, List, [], ◌∷◌, ◌++◌, length, Option, Some, None}
+use Rattle.least_table.specs.Tables.{half, longest, own, passed}
+use Rattle.least_table.specs.Trees.{inside}
+
+-- the routes without that of the whole block
+abbrev pub bare : List (List Bool × Option ℕ) → List (List Bool × Option ℕ)
+bare [] = []
+bare (([], k) ∷ t) = bare t
+bare ((b ∷ c, k) ∷ t) = (b ∷ c, k) ∷ bare t
+
+-- each address has a route
+abbrev pub Covers : ℕ → List (List Bool × Option ℕ) → Type 0
+Covers w t = (x : List Bool) → length x ≡ w → longest t x ≢ None
+
+-- each address has a route, or some address has none
+abbrev pub IsCovered : Bool → ℕ → List (List Bool × Option ℕ) → Type 0
+IsCovered true w t = Covers w t
+IsCovered false w t = (x : List Bool) × (length x ≡ w) × (longest t x ≡ None)
+
+-- the routes inside the block ds, without its bits
+abbrev pub inner : List Bool → List (List Bool × Option ℕ) → List (List Bool × Option ℕ)
+inner [] t = t
+inner (b ∷ ds) t = inner ds (half t b)
+
+-- the hop that the block ds inherits from the routes around it, if the whole inherits s
+abbrev pub handed : List Bool → Option ℕ → List (List Bool × Option ℕ) → Option ℕ
+handed [] s t = s
+handed (b ∷ ds) s t = handed ds (passed s (own t)) (half t b)
+
+-- the hop of the inner one of two routes, if there is one
+abbrev pub innermost : Option (Option ℕ) → Option (Option ℕ) → Option (Option ℕ)
+innermost o None = o
+innermost o (Some k) = Some k
+
+-- the hop of the longest route strictly around the block ds, or o if there is none
+abbrev pub around : List Bool → Option (Option ℕ) → List (List Bool × Option ℕ) → Option (Option ℕ)
+around [] o t = o
+around (b ∷ ds) o t = around ds (innermost o (own t)) (half t b)
+
+-- a table with this route of the whole block, or with none
+abbrev pub with_own : Option (Option ℕ) → List (List Bool × Option ℕ) → List (List Bool × Option ℕ)
+with_own None t = t
+with_own (Some k) t = ([], k) ∷ t
+
+-- the table with this route of the whole block, if any, and these tables of the halves
+abbrev pub whole : Option (Option ℕ) → List (List Bool × Option ℕ) → List (List Bool × Option ℕ) → List (List Bool × Option ℕ)
+whole o l r = with_own o (inside false l ++ inside true r)
+
+-- the table with the routes u in place of those inside the block ds
+abbrev pub put : List Bool → List (List Bool × Option ℕ) → List (List Bool × Option ℕ) → List (List Bool × Option ℕ)
+put [] t u = u
+put (false ∷ ds) t u = whole (own t) (put ds (half t false) u) (half t true)
+put (true ∷ ds) t u = whole (own t) (half t false) (put ds (half t true) u)

@@ -1,0 +1,12 @@
+pub mod Blocks
+pub mod Nearest
+pub mod Hops
+pub mod Plans
+pub mod Edits
+pub mod Told
+pub mod Laws
+pub mod Asked
+pub mod Changed
+pub mod Settled
+pub mod Wanted
+pub mod InnerPlans
