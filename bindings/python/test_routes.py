@@ -217,6 +217,7 @@ class Turns(unittest.TestCase):
                 table.add(net, 1, 0)
                 table.add(str(net[-1]), DROP, 65535)
                 self.assertEqual(table.get(net[0]), (net, 1, 0))
+                self.assertEqual(table.get(net[0].packed), (net, 1, 0))
                 self.assertEqual(table.get(str(net[-1])), (ipaddress.ip_network(net[-1]), DROP, 65535))
             self.assertEqual(table.line("count"), "count 2 2\nok\n")
 

@@ -75,14 +75,15 @@ class Piece(NamedTuple):
 class FlatArrays(NamedTuple):
     """The blocks of a flat list as five arrays, IPv4 first. Item i of each array belongs to block i.
 
-    The number of a block's first address is `high << 64 | low`. `zip(*arrays)` yields the blocks one by one.
+    `version`, 4 or 6, and `prefixlen` have the type code B, `high` and `low` Q, and `hop` I. The number of a block's first address is
+    `high << 64 | low`; for IPv4 `high` is 0. `zip(*arrays)` yields the blocks one by one.
     """
 
-    version: array[int]  # type code B: 4 or 6
-    high: array[int]  # type code Q: 0 for IPv4
-    low: array[int]  # type code Q
-    prefixlen: array[int]  # type code B
-    hop: array[int]  # type code I
+    version: array[int]
+    high: array[int]
+    low: array[int]
+    prefixlen: array[int]
+    hop: array[int]
 
 
 class Count(NamedTuple):
@@ -148,8 +149,10 @@ class _Handle:
         piece_at = getattr(_library, f"routes_{self._name}piece_at")
         arrays = FlatArrays(array("B"), array("Q"), array("Q"), array("B"), array("I"))
         part = (_Piece * 1024)()
-        columns = _columns(part)
         count = len(part)
+        octets = memoryview(part).cast("B")  # of 24 a piece: two numbers of 8, the hop's 4, family, length, and padding
+        halves, hops = octets.cast("Q"), octets.cast("I")
+        columns = octets[20::24], halves[::3], halves[1::3], octets[21::24], hops[4::6]
         while count == len(part):
             answers = map(piece_at, itertools.repeat(self._raw), itertools.count(len(arrays.hop)), part)
             count = len(list(itertools.takewhile(_is_found, answers)))
@@ -184,6 +187,9 @@ class Table(_Handle):
     A network has up to eight routes, each with another hop: a number below 2**32, or DROP. The best route has the greatest
     preference, and among equals the smallest number; DROP is last. Host bits of networks are ignored.
 
+    A network is a string or a network of `ipaddress`. An address is a string, an address of `ipaddress`, or its 4 or 16 bytes, as
+    `socket.inet_pton` returns them.
+
     If a call other than `line` raises an exception, the table is unchanged. MemoryError: an allocation failed. TypeError: an argument
     has a wrong type. ValueError: an argument is out of range, or the table is closed. RuntimeError: the call came from another thread
     than the one that made the table. A table can't be copied or pickled.
@@ -194,7 +200,7 @@ class Table(_Handle):
         self._raw = _Table()
         _is_found(_library.routes_open(self._raw))
 
-    def get(self, addr: Address | str) -> Route | None:
+    def get(self, addr: Address | str | bytes) -> Route | None:
         """Returns the best route of the longest stored network that contains the address, or None if there is none."""
         route = _Route()
         if self._call("get", _address(addr), route):
@@ -204,7 +210,7 @@ class Table(_Handle):
     def hops(self, addrs: Iterable[Address | str | bytes]) -> list[Hop | None]:
         """Returns the hop of the route that `get` finds for each address, or None if it finds none.
 
-        It calls the library at most twice. An address may also be its 4 or 16 bytes, as `socket.inet_pton` returns them; that is fastest.
+        It calls the library at most twice. Addresses as bytes are fastest.
         """
         return [None if hop == _NO_MATCH else _hop(hop) for hop in _many("routes_get{}_many", self._own(), addrs)]
 
@@ -315,12 +321,12 @@ class Index(_Handle):
         opens = _library.routes_follower_index if isinstance(source, Follower) else _library.routes_index_open
         _is_found(opens(self._raw, source._own()))
 
-    def hop(self, addr: Address | str) -> int | None:
+    def hop(self, addr: Address | str | bytes) -> int | None:
         """Returns the hop of the address, or None if it had no route or a null route."""
         return self.hops([addr])[0]
 
     def hops(self, addrs: Iterable[Address | str | bytes]) -> list[int | None]:
-        """Returns the hops of the addresses, which may be bytes as in a table's `hops`. It calls the library at most twice."""
+        """Returns the hops of the addresses. It calls the library at most twice, and addresses as bytes are fastest."""
         return list(map(_number, _many("routes_index_hop{}_many", self._own(), addrs)))
 
 
@@ -354,7 +360,7 @@ class Follower(_Handle):
         line = _line(line)
         _is_found(_library.routes_follower_line(self._own(), line, len(line)))
 
-    def hop(self, addr: Address | str) -> int | None:
+    def hop(self, addr: Address | str | bytes) -> int | None:
         """Returns the hop of the address, or None if it has none."""
         hop = c_uint32()
         return hop.value if self._call("get", _address(addr), hop) else None
@@ -536,17 +542,6 @@ def _whole(name: str, value: int, most: int) -> int:
     if not 0 <= number <= most:
         raise ValueError(f"{name} must be from 0 to {most}, not {number}")
     return number
-
-
-def _columns(pieces: ctypes.Array[_Piece]) -> tuple[memoryview, ...]:
-    """The fields of the pieces, each as a view of all its values, in the order of FlatArrays."""
-    view = memoryview(pieces).cast("B")
-
-    def column(field: str, code: str) -> memoryview:
-        size = struct.calcsize(code)
-        return view.cast(code)[getattr(_Piece, field).offset // size :: ctypes.sizeof(_Piece) // size]
-
-    return column("family", "B"), column("high", "Q"), column("low", "Q"), column("len", "B"), column("hop", "I")
 
 
 def _route(raw: _Route) -> Route:
