@@ -1,16 +1,24 @@
-"""Tests of routes.py: the sessions of the manual, and random steps compared with a plain model."""
+"""Tests of jolmidda: the sessions of the manual, and random steps compared with a plain model."""
 
+import copy
 import doctest
+import gc
 import ipaddress
+import pickle
 import random
+import re
+import time
 import unittest
 from concurrent.futures import ThreadPoolExecutor
 from pathlib import Path
+from unittest import mock
 
+import jolmidda
 import routes
-from routes import DROP, PREFERENCE, Change, Count, Failed, Follower, Full, Index, Piece, Route, Table
+from jolmidda import DROP, PREFERENCE, Change, Count, Failed, Follower, Full, Index, Piece, Route, Table
 
-EXAMPLES = Path(__file__).resolve().parents[2] / "examples"
+TOP = Path(__file__).resolve().parents[2]
+EXAMPLES = TOP / "examples"
 # The random steps change these two networks, of 16 addresses each, and networks inside them.
 ROOTS = [ipaddress.ip_network("10.0.0.240/28"), ipaddress.ip_network("2001:db8:0:ffff::/124")]
 
@@ -114,6 +122,12 @@ def outcome(call, *arguments):
         return type(error)
 
 
+def pieces_of(arrays):
+    """The blocks that arrays of a flat list have, as objects."""
+    kinds = {4: ipaddress.IPv4Network, 6: ipaddress.IPv6Network}
+    return [Piece(kinds[version]((high << 64 | low, length)), hop) for version, high, low, length, hop in zip(*arrays)]
+
+
 class Turns(unittest.TestCase):
     def test_random_turns(self):
         draw = random.Random(7)
@@ -148,6 +162,7 @@ class Turns(unittest.TestCase):
         for name in ("page_from", "page_after"):
             self.assertEqual(getattr(table, name)(net, limit), getattr(model, name)(net, limit), (name, net, limit))
         pieces = table.flat()
+        self.assertEqual(pieces_of(table.flat_arrays()), pieces)
         for hop in range(9):
             self.assertEqual(table.own(hop), [Route(piece.net, hop, PREFERENCE) for piece in pieces if piece.hop == hop])
         self.assertEqual(table.count(), Count(*(sum(other.version == version for other in model.routes) for version in (4, 6))))
@@ -182,6 +197,19 @@ class Turns(unittest.TestCase):
                 table.add(f"10.{part // 256}.{part % 256}.0/24", part)
             self.assertEqual([route.hop for route in table.inside("0.0.0.0/0")], list(range(3000)))
 
+    def test_a_long_flat_list(self):
+        """It is as long as the part that is copied at once, then longer by one, and then longer than two parts."""
+        with Table() as table:
+            for part in range(2100):
+                table.add(f"10.{part // 256}.{part % 256}.0/24", part)
+                if part + 1 in (1023, 1024, 1025, 2048, 2100):
+                    self.assertEqual([piece.hop for piece in table.flat()], list(range(part + 1)))
+            table.add("2001:db8::/32", 7)
+            arrays = table.flat_arrays()
+            self.assertEqual("".join(items.typecode for items in arrays), "BQQBI")
+            self.assertEqual([len(items) for items in arrays], [2101] * 5)
+            self.assertEqual(pieces_of(arrays), table.flat())
+
     def test_both_ends_of_both_families(self):
         with Table() as table:
             for net in map(ipaddress.ip_network, ("0.0.0.0/0", "::/0")):
@@ -189,6 +217,7 @@ class Turns(unittest.TestCase):
                 table.add(net, 1, 0)
                 table.add(str(net[-1]), DROP, 65535)
                 self.assertEqual(table.get(net[0]), (net, 1, 0))
+                self.assertEqual(table.get(net[0].packed), (net, 1, 0))
                 self.assertEqual(table.get(str(net[-1])), (ipaddress.ip_network(net[-1]), DROP, 65535))
             self.assertEqual(table.line("count"), "count 2 2\nok\n")
 
@@ -212,6 +241,18 @@ class Lines(unittest.TestCase):
                 table.add(f"10.{part}.0.0/16", 7)
             routes = "".join(f"route 10.{part}.0.0/16 7 100\n" for part in range(256))
             self.assertEqual(table.line("list 0.0.0.0/0"), routes + "ok\n")
+
+    def test_the_time_of_a_long_reply(self):
+        """A reply of 32 MB takes a fraction of a second. If it were copied for each part, it would take half a minute."""
+        size = 1 << 25
+
+        def reply(_table, start, _out, room):
+            return min(room, size - start)
+
+        with Table() as table, mock.patch.object(jolmidda._library, "routes_reply", reply):
+            begin = time.process_time()
+            self.assertEqual(len(table.line("flat")), size)
+            self.assertLess(time.process_time() - begin, 5)
 
 
 def follow(table, follower, line):
@@ -239,6 +280,7 @@ class Followers(unittest.TestCase):
             self.assertEqual(copy.hops(addrs), hops)
         self.assertEqual([follower.hop(addr) for addr in addrs], hops)
         self.assertEqual(follower.flat(), table.flat())
+        self.assertEqual(follower.flat_arrays(), table.flat_arrays())
         with Table() as made:
             for route in follower.least():
                 made.add(*route)
@@ -258,7 +300,8 @@ class Followers(unittest.TestCase):
         with Follower() as follower:
             with self.assertRaisesRegex(ValueError, "reply line"):
                 follower.line("ok\n")
-            for call in (lambda: follower.line("ok"), lambda: follower.hop("::"), follower.flat, follower.least, lambda: Index(follower)):
+            for call in (lambda: follower.line("ok"), lambda: follower.hop("::"), follower.flat, follower.flat_arrays, follower.least,
+                         lambda: Index(follower)):
                 with self.assertRaises(Failed):
                     call()
 
@@ -266,21 +309,86 @@ class Followers(unittest.TestCase):
         follower = Follower()
         follower.close()
         follower.close()
-        for call in (lambda: follower.line("ok"), lambda: follower.hop("::"), follower.flat, follower.least, lambda: Index(follower)):
+        for call in (lambda: follower.line("ok"), lambda: follower.hop("::"), follower.flat, follower.flat_arrays, follower.least,
+                     lambda: Index(follower)):
             with self.assertRaisesRegex(ValueError, "closed"):
                 call()
 
 
 class Rules(unittest.TestCase):
     def test_arguments_out_of_range(self):
-        with Table() as table:
-            for net, hop, preference in [
-                ("10.0.0.0/33", 1, 100), ("::/129", 1, 100), ("10.0.0.0/8", 1 << 32, 100), ("10.0.0.0/8", -1, 100),
-                ("10.0.0.0/8", 1, 1 << 16), ("10.0.0.0/8", 1, -1), ("ten", 1, 100),
+        """The message names the argument, and for a number its range."""
+        hops, preferences = "hop must be from 0 to 4294967295", "preference must be from 0 to 65535"
+        limits = f"limit must be from 0 to {2**64 - 1}"
+        with Table() as table, Follower() as follower, Index(table) as index:
+            for message, call, *arguments in [
+                ("'10.0.0.0/33'", table.add, "10.0.0.0/33", 1), ("'::/129'", table.remove, "::/129", 1), ("'ten'", table.inside, "ten"),
+                (f"{hops}, not 4294967296", table.add, "10.0.0.0/8", 1 << 32), (f"{hops}, not -1", table.remove, "10.0.0.0/8", -1),
+                (f"{hops}, not -1", table.own, -1), ("hop must be an int or 'drop', not '1'", table.add, "10.0.0.0/8", "1"),
+                (f"{preferences}, not 65536", table.add, "10.0.0.0/8", 1, 1 << 16), (f"{preferences}, not -1", table.add, "::/0", 1, -1),
+                (f"{limits}, not -1", table.page_from, "::/0", -1), (f"{limits}, not {2**64}", table.page_after, "::/0", 1 << 64),
+                ("'10.0.0'", table.get, "10.0.0"), ("'::g'", follower.hop, "::g"), ("'10.0.0.0/8'", index.hop, "10.0.0.0/8"),
+                (re.escape(repr(bytes(5))), table.hops, [bytes(5)]),
             ]:
-                with self.subTest((net, hop, preference)), self.assertRaises(ValueError):
-                    table.add(net, hop, preference)
-            self.assertEqual(table.line("count"), "count 0 0\nok\n")
+                with self.subTest(message), self.assertRaisesRegex(ValueError, message):
+                    call(*arguments)
+            self.assertEqual(table.count(), Count(0, 0))
+
+    def test_arguments_of_wrong_types(self):
+        """The message names the types that are right, and the one that is wrong."""
+        address, network = "must be a str, bytes or an ipaddress address", "must be a str or an ipaddress network"
+        line = "must be a str or bytes"
+        with Table() as table, Follower() as follower, Index(table) as index:
+            for message, call, *arguments in [
+                (f"{address}, not int", table.get, 167772161), (f"{address}, not NoneType", follower.hop, None),
+                (f"{address}, not IPv4Network", index.hop, ROOTS[0]), (f"{address}, not float", table.hops, ["::", 1.5]),
+                ("must be an iterable of addresses, not a single str", table.hops, "10.0.0.1"),
+                ("must be an iterable of addresses, not a single bytes", index.hops, bytes(4)),
+                (f"{network}, not int", table.add, 10, 1), (f"{network}, not NoneType", table.remove, None, 1),
+                (f"{network}, not bytes", table.inside, b"::/0"), (f"{network}, not tuple", table.page_from, ("::", 0), 1),
+                ("hop must be an int, not float", table.add, "::/0", 1.0), ("hop must be an int, not NoneType", table.remove, "::/0", None),
+                ("hop must be an int, not str", table.own, "1"), ("preference must be an int, not str", table.add, "::/0", 1, "100"),
+                ("limit must be an int, not float", table.page_after, "::/0", 1.0),
+                (f"{line}, not NoneType", table.line, None), (f"{line}, not bytearray", follower.line, bytearray(b"ok")),
+                ("source must be a Table or a Follower, not Index", Index, index),
+                ("source must be a Table or a Follower, not str", Index, "::/0"),
+            ]:
+                with self.subTest(message), self.assertRaisesRegex(TypeError, message):
+                    call(*arguments)
+            self.assertEqual(table.count(), Count(0, 0))
+
+    def test_other_integers(self):
+        """As elsewhere in Python, an object with `__index__` is an integer."""
+
+        class Seven:
+            def __index__(self):
+                return 7
+
+        with Table() as table:
+            self.assertEqual(table.add("::/0", Seven(), Seven()), Change(None, 7))
+            self.assertEqual(table.page_from("::/0", Seven()), [Route(ipaddress.ip_network("::/0"), 7, 7)])
+
+    def test_handles_are_not_copied(self):
+        with Table() as table, Follower() as follower, Index(table) as index, mock.patch("sys.unraisablehook") as hook:
+            for handle in (table, follower, index):
+                for copied in (copy.copy, copy.deepcopy, pickle.dumps):
+                    with self.subTest(handle=handle, copied=copied), self.assertRaisesRegex(TypeError, "copied or pickled"):
+                        copied(handle)
+            gc.collect()
+            hook.assert_not_called()
+            self.assertEqual((table.count(), follower.hop("::"), index.hop("::")), (Count(0, 0), None, None))
+
+    def test_objects_that_were_not_made(self):
+        """They are freed without a message."""
+        with mock.patch("sys.unraisablehook") as hook:
+            for kind in (Table, Follower, Index):
+                kind.__new__(kind)
+                with self.assertRaises(TypeError):
+                    kind(1, 2)
+                with self.assertRaises(pickle.UnpicklingError):
+                    pickle.loads(f"cjolmidda\n{kind.__name__}\n(t\x81I1\nb.".encode("latin-1"))
+            gc.collect()
+            hook.assert_not_called()
 
     def test_host_bits_are_ignored(self):
         with Table() as table:
@@ -292,8 +400,8 @@ class Rules(unittest.TestCase):
         table.close()
         table.close()
         for call in (lambda: table.get("::"), lambda: table.add("::/0", 1), lambda: table.remove("::/0", 1), table.flat,
-                     lambda: table.line("flat"), lambda: table.inside("::/0"), table.least, table.count, lambda: table.hops(["::"]),
-                     lambda: Index(table)):
+                     table.flat_arrays, lambda: table.line("flat"), lambda: table.inside("::/0"), table.least, table.count,
+                     lambda: table.hops(["::"]), lambda: Index(table)):
             with self.assertRaisesRegex(ValueError, "closed"):
                 call()
 
@@ -304,12 +412,6 @@ class Rules(unittest.TestCase):
         index.close()
         with self.assertRaisesRegex(ValueError, "closed"):
             index.hop("::")
-
-    def test_limits_out_of_range(self):
-        with Table() as table:
-            for limit in (-1, 1 << 64):
-                with self.subTest(limit), self.assertRaises(ValueError):
-                    table.page_from("::/0", limit)
 
     def test_a_table_stays_on_its_thread(self):
         with Table() as table, Follower() as follower, Index(table) as index, ThreadPoolExecutor(1) as other:
@@ -325,8 +427,19 @@ class Rules(unittest.TestCase):
         self.assertEqual(tables, [])
 
 
+class Packages(unittest.TestCase):
+    def test_the_former_name(self):
+        for name in jolmidda.__all__:
+            self.assertIs(getattr(routes, name), getattr(jolmidda, name))
+
+    def test_the_version(self):
+        """It is the latest that CHANGELOG.md names."""
+        latest = re.search(r"^## ([0-9.]+),", (TOP / "CHANGELOG.md").read_text(), re.M)[1]
+        self.assertIn(f'\nversion = "{latest}"\n', (TOP / "bindings/python/pyproject.toml").read_text())
+
+
 def load_tests(_loader, tests, _pattern):
-    tests.addTests(doctest.DocTestSuite(routes))
+    tests.addTests(doctest.DocTestSuite(jolmidda))
     return tests
 
 

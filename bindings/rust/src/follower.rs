@@ -14,7 +14,7 @@ use std::net::IpAddr;
 /// every call returns `Failed`, and a new follower has to start over.
 ///
 /// ```
-/// use routes::{Error, Follower, Table};
+/// use jolmidda::{Error, Follower, Table};
 /// use std::net::Ipv4Addr;
 ///
 /// let (mut leader, mut follower) = (Table::new()?, Follower::new()?);

@@ -5,7 +5,7 @@
 //! every caller that keeps the rules of its header, and the types of this crate keep them.
 //!
 //! ```
-//! use routes::{Change, Hop, Table, PREFERENCE};
+//! use jolmidda::{Change, Hop, Table, PREFERENCE};
 //! use std::net::Ipv4Addr;
 //!
 //! let mut table = Table::new()?;
@@ -17,6 +17,18 @@
 //! assert_eq!(route.to_string(), "10.0.0.0/8 1 100");
 //! # Ok::<(), Box<dyn std::error::Error>>(())
 //! ```
+//!
+//! # Linking
+//!
+//! The environment variable `ROUTES_LIB` names the folder of the library when the crate is
+//! built. If that folder has libroutes.a, the program is linked with it, and else with
+//! libroutes.so. Without the variable the linker searches its own path for libroutes.so.
+//!
+//! # Threads
+//!
+//! A [`Table`], an [`Index`] or a [`Follower`] is `Send` and not `Sync`: move it to another
+//! thread, or share it behind a lock. In the forked child of a process with threads, make no
+//! call.
 
 #![warn(missing_docs)]
 

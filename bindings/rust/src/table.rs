@@ -16,7 +16,7 @@ use std::net::{IpAddr, Ipv4Addr, Ipv6Addr};
 ///
 /// ```compile_fail,E0277
 /// fn shared<T: Sync>() {}
-/// shared::<routes::Table>();
+/// shared::<jolmidda::Table>();
 /// ```
 pub struct Table {
     /// Open until it is dropped, and boxed, since an open table may not move. The cell keeps

@@ -1,6 +1,6 @@
 //! A follower: it reads the lines of a table's replies, and returns the hops that they report.
 
-use routes::{Error, Follower, Hop, Index, Net, Route, Table, PREFERENCE};
+use jolmidda::{Error, Follower, Hop, Index, Net, Route, Table, PREFERENCE};
 use std::net::IpAddr;
 
 const LINES: [&str; 7] = [

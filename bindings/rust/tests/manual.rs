@@ -1,6 +1,6 @@
 //! The sessions of the manual, docs/ROUTES.md, line by line.
 
-use routes::{Error, Table};
+use jolmidda::{Error, Table};
 use std::fs;
 use std::path::Path;
 

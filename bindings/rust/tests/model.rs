@@ -1,6 +1,6 @@
 //! Random steps of a table, each compared with a plain model: a map of networks to their routes.
 
-use routes::{Change, Count, Error, Hop, Index, Net, Piece, Route, Table, PREFERENCE};
+use jolmidda::{Change, Count, Error, Hop, Index, Net, Piece, Route, Table, PREFERENCE};
 use std::collections::BTreeMap;
 use std::net::{IpAddr, Ipv4Addr, Ipv6Addr};
 

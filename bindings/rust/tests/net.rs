@@ -1,6 +1,6 @@
 //! Networks, read and printed.
 
-use routes::{Net, ParseNetError};
+use jolmidda::{Net, ParseNetError};
 use std::net::{Ipv4Addr, Ipv6Addr};
 
 #[test]

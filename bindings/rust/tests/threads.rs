@@ -1,7 +1,7 @@
 //! Tables, indexes and followers move between threads: they are made on one, used on others, and
 //! dropped on another.
 
-use routes::{Follower, Hop, Index, Net, Table, PREFERENCE};
+use jolmidda::{Follower, Hop, Index, Net, Table, PREFERENCE};
 use std::net::Ipv4Addr;
 use std::sync::mpsc::{channel, Receiver, Sender};
 use std::sync::{Arc, Mutex};

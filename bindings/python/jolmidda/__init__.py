@@ -1,0 +1,574 @@
+"""Route tables for IPv4 and IPv6: a wrapper of the C library `routes`, by ctypes.
+
+>>> with Table() as table:
+...     table.add("10.0.0.0/8", 1)
+...     table.add("10.1.0.0/16", DROP)
+...     print(table.get("10.2.3.4"))
+...     print(table.line("flat"), end="")
+Change(before=None, after=1)
+Change(before=1, after=None)
+Route(net=IPv4Network('10.0.0.0/8'), hop=1, preference=100)
+flat 10.0.0.0/16 1
+flat 10.2.0.0/15 1
+flat 10.4.0.0/14 1
+flat 10.8.0.0/13 1
+flat 10.16.0.0/12 1
+flat 10.32.0.0/11 1
+flat 10.64.0.0/10 1
+flat 10.128.0.0/9 1
+ok
+
+The library is libroutes.so in the folder that the environment variable ROUTES_LIB names. Without it, the
+system's search path is used.
+"""
+
+from __future__ import annotations
+
+import ctypes
+import ipaddress
+import itertools
+import operator
+import os
+import struct
+import threading
+from array import array
+from ctypes import POINTER, c_bool, c_char, c_char_p, c_size_t, c_uint8, c_uint16, c_uint32, c_uint64, c_void_p
+from typing import Final, Iterable, Literal, NamedTuple, NoReturn, Optional, TypeVar, Union
+
+__all__ = [
+    "Change", "Count", "DROP", "Failed", "FlatArrays", "Follower", "Full", "Index", "PREFERENCE", "Piece", "Route", "Table",
+]
+
+DROP: Final = "drop"
+"""The hop of a null route: its addresses have no hop."""
+
+PREFERENCE: Final = 100
+"""The preference that `routes lead` gives a route without one."""
+
+Address = Union[ipaddress.IPv4Address, ipaddress.IPv6Address]
+Net = Union[ipaddress.IPv4Network, ipaddress.IPv6Network]
+Hop = Union[int, Literal["drop"]]
+
+
+class Route(NamedTuple):
+    """The best route of a network."""
+
+    net: Net
+    hop: Hop
+    preference: int
+
+
+class Change(NamedTuple):
+    """The hop of the addresses that a network governs, before and after. None is no hop: no route, or a null route."""
+
+    before: Optional[int]
+    after: Optional[int]
+
+
+class Piece(NamedTuple):
+    """A block of a flat list, and the one hop that all its addresses have."""
+
+    net: Net
+    hop: int
+
+
+class FlatArrays(NamedTuple):
+    """The blocks of a flat list as five arrays, IPv4 first. Item i of each array belongs to block i.
+
+    `version`, 4 or 6, and `prefixlen` have the type code B, `high` and `low` Q, and `hop` I. The number of a block's first address is
+    `high << 64 | low`; for IPv4 `high` is 0. `zip(*arrays)` yields the blocks one by one.
+    """
+
+    version: array[int]
+    high: array[int]
+    low: array[int]
+    prefixlen: array[int]
+    hop: array[int]
+
+
+class Count(NamedTuple):
+    """The number of stored networks of each family."""
+
+    ipv4: int
+    ipv6: int
+
+
+class Full(Exception):
+    """The network has routes by eight other hops."""
+
+
+class Failed(Exception):
+    """The follower had a fault before."""
+
+
+class _Handle:
+    """A handle of the library, and the thread that may use it."""
+
+    _name = ""  # the prefix of the names of the library's calls
+    _raw: ctypes.Structure
+
+    def __init__(self) -> None:
+        self._thread = threading.get_ident()
+
+    def __enter__(self: _H) -> _H:
+        return self
+
+    def __exit__(self, *_: object) -> None:
+        self.close()
+
+    def close(self) -> None:
+        """Frees the memory. A closed object stays closed."""
+        self._own()
+        self._close()
+
+    def __del__(self) -> None:
+        if hasattr(self, "_raw"):  # without it, __init__ did not run
+            self._close()  # the thread that runs this is the last one with a reference
+
+    def __reduce__(self) -> NoReturn:
+        raise TypeError(f"{type(self).__name__} objects can't be copied or pickled")
+
+    def _close(self) -> None:
+        getattr(_library, f"routes_{self._name}close")(self._raw)
+
+    def _own(self) -> ctypes.Structure:
+        """The handle, if this is its thread."""
+        if threading.get_ident() != self._thread:
+            raise RuntimeError(f"this {type(self).__name__} stays on the thread that made it")
+        return self._raw
+
+    def _call(self, name: str, addr: Address, *rest: object) -> bool:
+        """Calls the function of this name for the address's family."""
+        number = int(addr)
+        halves = (number,) if addr.version == 4 else (number >> 64, number & (1 << 64) - 1)
+        return _is_found(getattr(_library, f"routes_{self._name}{name}{addr.version}")(self._own(), *halves, *rest))
+
+    def _arrays(self) -> FlatArrays:
+        """Makes the flat list, and copies it in parts."""
+        _is_found(getattr(_library, f"routes_{self._name}flat")(self._own()))
+        piece_at = getattr(_library, f"routes_{self._name}piece_at")
+        arrays = FlatArrays(array("B"), array("Q"), array("Q"), array("B"), array("I"))
+        part = (_Piece * 1024)()
+        count = len(part)
+        octets = memoryview(part).cast("B")  # of 24 a piece: two numbers of 8, the hop's 4, family, length, and padding
+        halves, hops = octets.cast("Q"), octets.cast("I")
+        columns = octets[20::24], halves[::3], halves[1::3], octets[21::24], hops[4::6]
+        while count == len(part):
+            answers = map(piece_at, itertools.repeat(self._raw), itertools.count(len(arrays.hop)), part)
+            count = len(list(itertools.takewhile(_is_found, answers)))
+            for items, column in zip(arrays, columns):
+                items.frombytes(column[:count].tobytes())
+        return arrays
+
+    def _pieces(self) -> list[Piece]:
+        """Makes the flat list, and reads it."""
+        return [Piece(_net(version, high, low, length), hop) for version, high, low, length, hop in zip(*self._arrays())]
+
+    def _read(self) -> list[Route]:
+        """The list of routes that was made last."""
+        routes: list[Route] = []
+        part = (_Route * 1024)()
+        while count := getattr(_library, f"routes_{self._name}read")(self._raw, len(routes), part, len(part)):
+            routes.extend(map(_route, part[:count]))
+        return routes
+
+    def _least(self) -> list[Route]:
+        """Makes a least table, and reads it."""
+        _is_found(getattr(_library, f"routes_{self._name}least")(self._own()))
+        return self._read()
+
+
+_H = TypeVar("_H", bound=_Handle)
+
+
+class Table(_Handle):
+    """A route table: a context manager, which closes it.
+
+    A network has up to eight routes, each with another hop: a number below 2**32, or DROP. The best route has the greatest
+    preference, and among equals the smallest number; DROP is last. Host bits of networks are ignored.
+
+    A network is a string or a network of `ipaddress`. An address is a string, an address of `ipaddress`, or its 4 or 16 bytes, as
+    `socket.inet_pton` returns them.
+
+    If a call other than `line` raises an exception, the table is unchanged. MemoryError: an allocation failed. TypeError: an argument
+    has a wrong type. ValueError: an argument is out of range, or the table is closed. RuntimeError: the call came from another thread
+    than the one that made the table. A table can't be copied or pickled.
+    """
+
+    def __init__(self) -> None:
+        super().__init__()
+        self._raw = _Table()
+        _is_found(_library.routes_open(self._raw))
+
+    def get(self, addr: Address | str | bytes) -> Route | None:
+        """Returns the best route of the longest stored network that contains the address, or None if there is none."""
+        route = _Route()
+        if self._call("get", _address(addr), route):
+            return _route(route)
+        return None
+
+    def hops(self, addrs: Iterable[Address | str | bytes]) -> list[Hop | None]:
+        """Returns the hop of the route that `get` finds for each address, or None if it finds none.
+
+        It calls the library at most twice. Addresses as bytes are fastest.
+        """
+        return [None if hop == _NO_MATCH else _hop(hop) for hop in _many("routes_get{}_many", self._own(), addrs)]
+
+    def count(self) -> Count:
+        """Returns the number of stored networks of each family."""
+        ipv4, ipv6 = c_size_t(), c_size_t()
+        _is_found(_library.routes_count(self._own(), ipv4, ipv6))
+        return Count(ipv4.value, ipv6.value)
+
+    def add(self, net: Net | str, hop: Hop, preference: int = PREFERENCE) -> Change:
+        """Adds a route. If the network has this hop already, its preference changes.
+
+        Raises Full if the network has routes by eight other hops.
+        """
+        return self._change("add", net, hop, _whole("preference", preference, (1 << 16) - 1))
+
+    def remove(self, net: Net | str, hop: Hop) -> Change:
+        """Removes the network's route by this hop. Raises KeyError if there is none."""
+        return self._change("del", net, hop)
+
+    def flat(self) -> list[Piece]:
+        """Returns the fewest one-hop blocks that cover all addresses with a hop, in ascending order."""
+        return self._pieces()
+
+    def flat_arrays(self) -> FlatArrays:
+        """Returns the blocks of `flat` as arrays, which is several times as fast for a long list."""
+        return self._arrays()
+
+    def inside(self, net: Net | str) -> list[Route]:
+        """Returns the best routes of the stored networks inside this one, itself included, in ascending order."""
+        return self._list("list", net)
+
+    def cover(self, net: Net | str) -> list[Route]:
+        """Returns the best routes of the stored networks that contain this one, itself included, shortest first."""
+        return self._list("cover", net)
+
+    def page_from(self, net: Net | str, limit: int) -> list[Route]:
+        """Returns at most `limit` best routes of the family's stored networks from this one on, in ascending order."""
+        return self._list("from", net, _whole("limit", limit, _SIZE_MAX))
+
+    def page_after(self, net: Net | str, limit: int) -> list[Route]:
+        """Returns the same for the networks after this one, which need not be stored: the page after one that ends with it."""
+        return self._list("after", net, _whole("limit", limit, _SIZE_MAX))
+
+    def all(self, net: Net | str) -> list[Route]:
+        """Returns all routes of exactly this network, best first."""
+        return self._list("all", net)
+
+    def governed(self, net: Net | str) -> list[Route]:
+        """Returns the maximal blocks of the addresses that the network governs, each with their hop, or DROP for none.
+
+        A network governs those of its addresses that no stored network strictly inside it contains. If a change of the network
+        returned two different hops, these are the addresses whose hop changed.
+        """
+        return self._list("governed", net)
+
+    def own(self, hop: int) -> list[Route]:
+        """Returns the blocks of `flat` with this hop, in ascending order."""
+        _is_found(_library.routes_own(self._own(), _number_of(hop)))
+        return self._read()
+
+    def least(self) -> list[Route]:
+        """Returns the routes of a smallest table with the same hop at each address."""
+        return self._least()
+
+    def line(self, line: str | bytes) -> str:
+        """Returns the reply of `routes lead` to a line of its input, given without its line end.
+
+        Raises MemoryError if an allocation for the reply fails. The line was carried out even so, and the table is the one after it.
+        """
+        line = _line(line)
+        _is_found(_library.routes_line(self._own(), line, len(line)))
+        reply = bytearray()
+        out = ctypes.create_string_buffer(4096)
+        while count := _library.routes_reply(self._raw, len(reply), out, len(out)):
+            reply += out[:count]
+            if count < len(out):
+                break
+        return reply.decode("ascii")
+
+    def _change(self, name: str, net: Net | str, hop: Hop, *preference: int) -> Change:
+        net = _network(net)
+        change = _Change()
+        if not self._call(name, net.network_address, net.prefixlen, _raw_hop(hop), *preference, change):
+            raise KeyError((net, hop))
+        return Change(_number(change.before), _number(change.after))
+
+    def _list(self, name: str, net: Net | str, *limit: int) -> list[Route]:
+        net = _network(net)
+        self._call(name, net.network_address, net.prefixlen, *limit)
+        return self._read()
+
+
+class Index(_Handle):
+    """The hop of each address, as a table or a follower had it when the index was made: a snapshot, which later changes don't reach.
+
+    It is a context manager, which closes it, and its lookups are faster than the table's. Calls raise the exceptions of a table. No
+    index can be made of a follower that failed.
+    """
+
+    _name = "index_"
+
+    def __init__(self, source: Table | Follower) -> None:
+        super().__init__()
+        if not isinstance(source, (Table, Follower)):
+            raise TypeError(f"source must be a Table or a Follower, not {type(source).__name__}")
+        self._raw = _Index()
+        opens = _library.routes_follower_index if isinstance(source, Follower) else _library.routes_index_open
+        _is_found(opens(self._raw, source._own()))
+
+    def hop(self, addr: Address | str | bytes) -> int | None:
+        """Returns the hop of the address, or None if it had no route or a null route."""
+        return self.hops([addr])[0]
+
+    def hops(self, addrs: Iterable[Address | str | bytes]) -> list[int | None]:
+        """Returns the hops of the addresses. It calls the library at most twice, and addresses as bytes are fastest."""
+        return list(map(_number, _many("routes_index_hop{}_many", self._own(), addrs)))
+
+
+class Follower(_Handle):
+    """The hops that the reply lines of a leader report: a context manager, which closes it. A leader is `routes lead` or `Table.line`.
+
+    `set` and `unset` lines are pending until their reply is closed. `ok` commits them in order, and `none`, `bad` and `refused` drop
+    them. All other reply lines change nothing. A text that is not a reply line is a fault, and so is a line for which an allocation
+    fails. After a fault every call but `close` raises Failed, and a new follower has to start over. Other calls raise the exceptions of
+    a table.
+
+    >>> with Table() as leader, Follower() as follower:
+    ...     for line in leader.line("add 10.0.0.0/8 1").splitlines():
+    ...         follower.line(line)
+    ...     follower.hop("10.2.3.4")
+    1
+    """
+
+    _name = "follower_"
+
+    def __init__(self) -> None:
+        super().__init__()
+        self._raw = _Follower()
+        _is_found(_library.routes_follower_open(self._raw))
+
+    def line(self, line: str | bytes) -> None:
+        """Reads a line of a reply, given without its line end.
+
+        Raises ValueError if it is not a reply line, and MemoryError if an allocation for a change fails: both are faults.
+        """
+        line = _line(line)
+        _is_found(_library.routes_follower_line(self._own(), line, len(line)))
+
+    def hop(self, addr: Address | str | bytes) -> int | None:
+        """Returns the hop of the address, or None if it has none."""
+        hop = c_uint32()
+        return hop.value if self._call("get", _address(addr), hop) else None
+
+    def flat(self) -> list[Piece]:
+        """Returns the fewest one-hop blocks that cover all addresses with a hop, in ascending order."""
+        return self._pieces()
+
+    def flat_arrays(self) -> FlatArrays:
+        """Returns the blocks of `flat` as arrays, which is several times as fast for a long list."""
+        return self._arrays()
+
+    def least(self) -> list[Route]:
+        """Returns the routes of a smallest table with the same hop at each address."""
+        return self._least()
+
+
+_DROP = 1 << 32
+_NO_MATCH = 1 << 33
+_SIZE_MAX = c_size_t(-1).value
+
+
+class _Table(ctypes.Structure):
+    _fields_ = [("at", c_void_p), ("is_open", c_bool)]
+
+
+class _Index(ctypes.Structure):
+    _fields_ = [("at", c_void_p), ("is_open", c_bool)]
+
+
+class _Follower(ctypes.Structure):
+    _fields_ = [("at", c_void_p), ("is_open", c_bool)]
+
+
+class _Addr6(ctypes.Structure):
+    _fields_ = [("high", c_uint64), ("low", c_uint64)]
+
+
+class _Route(ctypes.Structure):
+    _fields_ = [("high", c_uint64), ("low", c_uint64), ("hop", c_uint64), ("pref", c_uint16), ("family", c_uint8), ("len", c_uint8)]
+
+
+class _Change(ctypes.Structure):
+    _fields_ = [("before", c_uint64), ("after", c_uint64)]
+
+
+class _Piece(ctypes.Structure):
+    _fields_ = [("high", c_uint64), ("low", c_uint64), ("hop", c_uint32), ("family", c_uint8), ("len", c_uint8)]
+
+
+def _load() -> ctypes.PyDLL:
+    """Loads the library, with the signatures of its header. A PyDLL holds Python's lock, so no two calls run at once."""
+    folder = os.environ.get("ROUTES_LIB")
+    library = ctypes.PyDLL(os.path.join(folder, "libroutes.so") if folder else "libroutes.so.1")
+    table, route, change, piece = POINTER(_Table), POINTER(_Route), POINTER(_Change), POINTER(_Piece)
+    index, addrs4, addrs6, hops, size = POINTER(_Index), POINTER(c_uint32), POINTER(_Addr6), POINTER(c_uint64), POINTER(c_size_t)
+    net4, net6 = (c_uint32, c_uint8), (c_uint64, c_uint64, c_uint8)
+    follower, hop = POINTER(_Follower), POINTER(c_uint32)
+    for name, result, *arguments in (
+        ("open", c_uint32, table),
+        ("close", None, table),
+        ("get4", c_uint32, table, c_uint32, route),
+        ("get6", c_uint32, table, c_uint64, c_uint64, route),
+        ("get4_many", c_uint32, table, addrs4, c_size_t, hops, c_size_t),
+        ("get6_many", c_uint32, table, addrs6, c_size_t, hops, c_size_t),
+        ("count", c_uint32, table, size, size),
+        ("add4", c_uint32, table, c_uint32, c_uint8, c_uint64, c_uint16, change),
+        ("add6", c_uint32, table, c_uint64, c_uint64, c_uint8, c_uint64, c_uint16, change),
+        ("del4", c_uint32, table, c_uint32, c_uint8, c_uint64, change),
+        ("del6", c_uint32, table, c_uint64, c_uint64, c_uint8, c_uint64, change),
+        ("flat", c_uint32, table),
+        ("piece_at", c_uint32, table, c_size_t, piece),
+        *((f"{name}4", c_uint32, table, *net4) for name in ("list", "cover", "all", "governed")),
+        *((f"{name}6", c_uint32, table, *net6) for name in ("list", "cover", "all", "governed")),
+        *((f"{name}4", c_uint32, table, *net4, c_size_t) for name in ("from", "after")),
+        *((f"{name}6", c_uint32, table, *net6, c_size_t) for name in ("from", "after")),
+        ("own", c_uint32, table, c_uint32),
+        ("least", c_uint32, table),
+        ("read", c_size_t, table, c_size_t, route, c_size_t),
+        ("index_open", c_uint32, index, table),
+        ("index_close", None, index),
+        ("index_hop4_many", c_uint32, index, addrs4, c_size_t, hops, c_size_t),
+        ("index_hop6_many", c_uint32, index, addrs6, c_size_t, hops, c_size_t),
+        ("follower_open", c_uint32, follower),
+        ("follower_close", None, follower),
+        ("follower_line", c_uint32, follower, c_char_p, c_size_t),
+        ("follower_get4", c_uint32, follower, c_uint32, hop),
+        ("follower_get6", c_uint32, follower, c_uint64, c_uint64, hop),
+        ("follower_flat", c_uint32, follower),
+        ("follower_piece_at", c_uint32, follower, c_size_t, piece),
+        ("follower_least", c_uint32, follower),
+        ("follower_read", c_size_t, follower, c_size_t, route, c_size_t),
+        ("follower_index", c_uint32, index, follower),
+        ("line", c_uint32, table, c_char_p, c_size_t),
+        ("reply", c_size_t, table, c_size_t, POINTER(c_char), c_size_t),
+    ):
+        function = getattr(library, "routes_" + name)
+        function.restype, function.argtypes = result, arguments
+    return library
+
+
+_library = _load()
+
+
+def _is_found(answer: int) -> bool:
+    """Returns whether the value was found. Other results raise an exception."""
+    if answer in (0, 1):
+        return answer == 0
+    if answer == 2:
+        raise MemoryError("there is no memory")
+    if answer == 3:
+        raise ValueError("the table, the index or the follower is closed")
+    if answer == 5:
+        raise Full("the network has routes by eight other hops")
+    if answer == 7:
+        raise ValueError("this is no reply line")
+    if answer == 8:
+        raise Failed("the follower had a fault before")
+    raise AssertionError(f"the library answered {answer}, which its header does not allow here")
+
+
+def _many(name: str, raw: _Table | _Index, addrs: Iterable[Address | str | bytes]) -> list[int]:
+    """Looks up many addresses, with one call for each family among them. Each result is one number."""
+    if isinstance(addrs, (str, bytes)):
+        raise TypeError(f"addrs must be an iterable of addresses, not a single {type(addrs).__name__}")
+    packed = list(map(_packed, addrs))
+    answers = [0] * len(packed)
+    for version, size, type_, letter in ((4, 4, c_uint32, "I"), (6, 16, _Addr6, "Q")):
+        places = [place for place, addr in enumerate(packed) if len(addr) == size]
+        form = f"{len(places) * size // struct.calcsize('=' + letter)}{letter}"
+        numbers = struct.unpack(">" + form, b"".join([packed[place] for place in places]))
+        asked = (type_ * len(places)).from_buffer_copy(struct.pack("=" + form, *numbers))
+        hops = (c_uint64 * len(places))()
+        _is_found(getattr(_library, name.format(version))(raw, asked, len(places), hops, len(places)))
+        for place, hop in zip(places, hops[:]):
+            answers[place] = hop
+    return answers
+
+
+def _packed(addr: Address | str | bytes) -> bytes:
+    """Returns the bytes of the address, in network order."""
+    if isinstance(addr, bytes) and len(addr) in (4, 16):
+        return addr
+    return _address(addr).packed
+
+
+def _address(addr: Address | str | bytes) -> Address:
+    """Returns the address. (`ip_address` would print an address object, and parse it again.)"""
+    if isinstance(addr, (ipaddress.IPv4Address, ipaddress.IPv6Address)):
+        return addr
+    if isinstance(addr, (str, bytes)):
+        return ipaddress.ip_address(addr)
+    raise TypeError(f"an address must be a str, bytes or an ipaddress address, not {type(addr).__name__}")
+
+
+def _network(net: Net | str) -> Net:
+    """Returns the network, without host bits."""
+    if isinstance(net, (ipaddress.IPv4Network, ipaddress.IPv6Network)):
+        return net
+    if isinstance(net, str):
+        return ipaddress.ip_network(net, strict=False)
+    raise TypeError(f"a network must be a str or an ipaddress network, not {type(net).__name__}")
+
+
+def _line(line: str | bytes) -> bytes:
+    if isinstance(line, str):
+        return line.encode()
+    if isinstance(line, bytes):
+        return line
+    raise TypeError(f"a line must be a str or bytes, not {type(line).__name__}")
+
+
+def _whole(name: str, value: int, most: int) -> int:
+    """Returns the argument of this name, if it is an integer from 0 to `most`."""
+    try:
+        number = operator.index(value)
+    except TypeError:
+        raise TypeError(f"{name} must be an int, not {type(value).__name__}") from None
+    if not 0 <= number <= most:
+        raise ValueError(f"{name} must be from 0 to {most}, not {number}")
+    return number
+
+
+def _route(raw: _Route) -> Route:
+    return Route(_net(raw.family, raw.high, raw.low, raw.len), _hop(raw.hop), raw.pref)
+
+
+def _hop(hop: int) -> Hop:
+    return DROP if hop == _DROP else hop
+
+
+def _net(version: int, high: int, low: int, prefixlen: int) -> Net:
+    if version == 4:
+        return ipaddress.IPv4Network((low, prefixlen))
+    return ipaddress.IPv6Network((high << 64 | low, prefixlen))
+
+
+def _raw_hop(hop: Hop) -> int:
+    if not isinstance(hop, str):
+        return _number_of(hop)
+    if hop != DROP:
+        raise ValueError(f"hop must be an int or {DROP!r}, not {hop!r}")
+    return _DROP
+
+
+def _number_of(hop: int) -> int:
+    return _whole("hop", hop, (1 << 32) - 1)
+
+
+def _number(hop: int) -> int | None:
+    return None if hop == _DROP else hop
