@@ -5,6 +5,7 @@
 pub mod feed;
 pub mod index;
 pub mod map;
+pub mod nearest;
 pub mod over_bytes;
 pub mod table;
 pub mod threads;
