@@ -37,10 +37,8 @@ impl Line {
 /// Returns the line that these bytes before a line end are, as `Line::text` does: `None` if there are more than 80 bytes.
 ///
 /// # Examples
-/// If `line` is the line `ok` of a `LineCutter`:
-///
 /// ```rust
-/// assert_eq!(rt; line_text(b"ok"), line.text());
+/// assert_eq!(rt; line_text(b"ok"), Some(b"ok".as_slice()));
 /// ```
 pub fn line_text(piece: &[u8]) -> Option<&[u8]>
     ensures { as_line result ≡ line_of piece.now }
