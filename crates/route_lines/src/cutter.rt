@@ -37,8 +37,10 @@ impl Line {
 /// Returns the line that these bytes before a line end are, as `Line::text` does: `None` if there are more than 80 bytes.
 ///
 /// # Examples
+/// For a `piece` of `row` bytes; `row_is` compares:
+///
 /// ```rust
-/// assert_eq!(rt; line_text(b"ok"), Some(b"ok".as_slice()));
+/// row_is(rt, row, line_text(piece).is_some(), row <= 80);
 /// ```
 pub fn line_text(piece: &[u8]) -> Option<&[u8]>
     ensures { as_line result ≡ line_of piece.now }

@@ -46,7 +46,6 @@ fn one_line(rt: HostRuntime) {
     let line = cutter.feed(b'\n').expect(&rt, "a line");
     assert_eq!(rt; line.text(), Some(b"ok".as_slice()));
     assert!(rt; cutter.is_new());
-    assert_eq!(rt; line_text(b"ok"), Some(b"ok".as_slice()));
 }
 
 #[test]
