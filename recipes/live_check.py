@@ -1,6 +1,7 @@
 """Drives a kernel in network namespaces by routes_fib and fib_kernel, and asks it between single operations: `recipes/live check`."""
 import contextlib
 import ctypes
+import errno
 import ipaddress
 import os
 import random
@@ -740,6 +741,28 @@ def check_families(folder):
         chain.wait(_2=1)
 
 
+def netlink_alone():
+    """Refuses this process all sockets but those of netlink, as the unit of `keep` does: seccomp(2), on x86-64."""
+    load, is_equal, end = 0x20, 0x15, 0x06
+    steps = ((load, 0, 0, 0), (is_equal, 0, 3, 41), (load, 0, 0, 16), (is_equal, 1, 0, socket.AF_NETLINK),
+             (end, 0, 0, 0x50000 | errno.EAFNOSUPPORT), (end, 0, 0, 0x7FFF0000))
+    code = ctypes.create_string_buffer(b"".join(struct.pack("=HBBI", *step) for step in steps))
+    program, library = struct.pack("@HP", len(steps), ctypes.addressof(code)), ctypes.CDLL(None)
+    for words in ((38, 1, 0, 0, 0), (22, 2, program, 0, 0)):  # PR_SET_NO_NEW_PRIVS; PR_SET_SECCOMP, SECCOMP_MODE_FILTER
+        same("prctl", library.prctl(*words), 0)
+
+
+def check_sandbox(folder):
+    """a sandbox that refuses all sockets but those of netlink, as the unit does"""
+    Path(folder, "way").write_text("1 via 192.0.2.1 dev lan\n")
+    with namespace(*LAN) as own:
+        for mode, given, wanted in (("load", "install 10.1.0.0/16 1\ninstall 2001:db8::/32 drop\nok\n", "ok\n"),
+                                    ("list", "", "have 10.1.0.0/16 1\nhave 2001:db8::/32 drop\nok\n")):
+            done = subprocess.run([*inside(own), FIB_KERNEL, mode, f"{folder}/way", "77"], input=given, capture_output=True, text=True,
+                                  preexec_fn=netlink_alone)
+            same(f"`{mode}` with sockets of netlink alone", [done.returncode, done.stdout, done.stderr], [0, wanted, ""])
+
+
 def check_permission(folder):
     """without the permission `keep` ends at once, though there is nothing to change"""
     Path(folder, "none").write_text("")
@@ -913,8 +936,8 @@ def check():
     with tempfile.TemporaryDirectory() as folder:
         hops = f"{folder}/hops"
         check_page(folder)
-        for one in (check_lines, check_refused, check_silent, check_events, check_shorter, check_families, check_permission, check_own,
-                    check_memory, check_measures):
+        for one in (check_lines, check_refused, check_silent, check_events, check_shorter, check_families, check_sandbox, check_permission,
+                    check_own, check_memory, check_measures):
             one(folder)
             print(f"seen: {one.__doc__}")
         Path(hops).write_text(text(f"{hop} via fe80::{hop} dev lan" for hop in HOPS))
