@@ -18,6 +18,7 @@ import threading
 import time
 from collections import Counter
 from pathlib import Path
+from typing import NamedTuple
 
 from common import FIB_KERNEL, INSTALLER, PROGRAM, Page, any_addresses, bird, fault, namespace, needs, refused, same, text, tool
 
@@ -447,8 +448,8 @@ def kept(own, hops, log, folder):
             print(f"said: {line}")
 
 
-def wait_for(what, holds):
-    for _ in range(300):
+def wait_for(what, holds, seconds=30):
+    for _ in range(10 * seconds):
         if holds():
             return
         time.sleep(0.1)
@@ -857,52 +858,85 @@ def peak(pid):
     return int(re.search(r"VmHWM:\s+(\d+)", Path(f"/proc/{pid}/status").read_text())[1])
 
 
+class Cost(NamedTuple):
+    """Of an operation: microseconds of the processor in the program and in the kernel, and of the clock. The most kB of the process."""
+    user: float
+    system: float
+    clock: float
+    memory: int
+
+    @property
+    def processor(self):
+        return self.user + self.system
+
+
+def cost(used, begun, batches, memory):
+    count = sum(map(len, batches)) / 1e6
+    return Cost(used[0] / count, used[1] / count, (time.monotonic() - begun) / count, memory)
+
+
 def by_netlink(own, hops, batches):
-    """Each batch is given once the `ok` of the batch before has come: microseconds of the processor for an operation, and kB."""
-    process = subprocess.Popen([*inside(own), FIB_KERNEL, "load", hops, "77"], stdin=subprocess.PIPE, stdout=subprocess.PIPE)
-    for batch in batches:
-        process.stdin.write(text([*batch, "ok"]).encode())
-        process.stdin.flush()
-        same("the end of a batch", process.stdout.readline(), b"ok\n")
+    """Each batch is given once the `ok` of the batch before has come."""
+    process = subprocess.Popen([*inside(own), FIB_KERNEL, "load", hops, "77"], stdin=subprocess.PIPE, stdout=subprocess.PIPE, bufsize=0)
+    given, begun = [text([*batch, "ok"]).encode() for batch in batches], time.monotonic()
+    for batch in given:
+        process.stdin.write(batch)
+        same("the end of a batch", process.stdout.read(3), b"ok\n")
     most = peak(process.pid)
     process.stdin.close()
     _, status, used = os.wait4(process.pid, 0)
     process.returncode = status
     same("the status of fib_kernel", status, 0)
     process.stdout.close()
-    return 1e6 * (used.ru_utime + used.ru_stime) / sum(map(len, batches)), most
+    return cost((used.ru_utime, used.ru_stime), begun, batches, most)
 
 
 def by_ip(own, _, batches):
     """The same by an `ip -batch -` for each batch. Its memory is at least that of this program."""
-    before = resource.getrusage(resource.RUSAGE_CHILDREN)
+    before, begun = resource.getrusage(resource.RUSAGE_CHILDREN), time.monotonic()
     for batch in batches:
         lines = (f"route del {words[1]}" if words[0] == "remove" else f"route replace {words[1]} via inet6 fe80::{words[2]} dev lan"
                  for words in map(str.split, batch))
         tool("ip", "-n", own, "-batch", "-", given=text(f"{line} proto 77 table 77" for line in lines))
     after = resource.getrusage(resource.RUSAGE_CHILDREN)
-    return 1e6 * (after.ru_utime - before.ru_utime + after.ru_stime - before.ru_stime) / sum(map(len, batches)), after.ru_maxrss
+    return cost((after.ru_utime - before.ru_utime, after.ru_stime - before.ru_stime), begun, batches, after.ru_maxrss)
+
+
+def measured(own, hops, family, by, count, runs):
+    """The least cost of so many runs, for installs and removes, each in a batch of its own and all in one batch."""
+    nets, found = drawn_networks(family == 6, 100000), {}
+    lists = {"installs": [f"install {net} {DRAWN.choice(HOPS)}" for net in nets], "removes": [f"remove {net}" for net in nets]}
+    for _ in range(runs):
+        for title, batches in [(f"single {word}", [[one] for one in lines[:count]]) for word, lines in lists.items()] + \
+                              [(f"{word} in one batch", [lines]) for word, lines in lists.items()]:
+            found.setdefault(title, []).append(by(own, hops, batches))
+    return {title: min(costs, key=lambda cost: cost.processor) for title, costs in found.items()}
+
+
+def figures(folder, runs):
+    """Prints the costs of fib_kernel, the least of so many runs, and those of `ip`, of one run."""
+    hops = f"{folder}/few"
+    Path(hops).write_text(text(f"{hop} via fe80::{hop} dev lan" for hop in HOPS))
+    print(f"| load {load()} | us, fib_kernel | user | system | per s | kB | us, ip | kB |\n|---|---|---|---|---|---|---|---|")
+    with namespace() as own:
+        for family in (4, 6):
+            ours, theirs = measured(own, hops, family, by_netlink, 10000, runs), measured(own, hops, family, by_ip, 500, 1)
+            for title, one in ours.items():
+                other = theirs[title]
+                print(f"| IPv{family}, {title} | {one.processor:.1f} | {one.user:.1f} | {one.system:.1f} | {1e6 / one.clock:,.0f} | "
+                      f"{one.memory:,} | {other.processor:,.1f} | {'' if 'single' in title else f'{other.memory:,}'} |", flush=True)
+                if one.processor > MOST_TIME or one.memory > MOST_MEMORY:
+                    fault(f"more than {MOST_TIME} us or {MOST_MEMORY} kB")
+    print(f"least of {runs} runs of fib_kernel; load {load()} on {os.cpu_count()} processors")
+
+
+def load():
+    return Path("/proc/loadavg").read_text().split()[0]
 
 
 def check_measures(folder):
     """the processor's time for an operation, and the memory"""
-    hops = f"{folder}/few"
-    Path(hops).write_text(text(f"{hop} via fe80::{hop} dev lan" for hop in HOPS))
-    print("| | us, fib_kernel | kB | us, ip | kB |\n|---|---|---|---|---|")
-    with namespace() as own:
-        for family in (4, 6):
-            nets, figures = drawn_networks(family == 6, 100000), {}
-            lists = {"installs": [f"install {net} {DRAWN.choice(HOPS)}" for net in nets], "removes": [f"remove {net}" for net in nets]}
-            for by, count in ((by_netlink, 10000), (by_ip, 500)):
-                for title, operations in lists.items():
-                    figures[by, f"single {title}"] = by(own, hops, [[operation] for operation in operations[:count]])
-                for title, operations in lists.items():
-                    figures[by, f"{title} in one batch"] = by(own, hops, [operations])
-            for (_, title), (one, kilobytes) in list(figures.items())[:4]:
-                other, more = figures[by_ip, title]
-                print(f"| IPv{family}, {title} | {one:.1f} | {kilobytes:,} | {other:,.1f} | {'' if 'single' in title else f'{more:,}'} |")
-                if one > MOST_TIME or kilobytes > MOST_MEMORY:
-                    fault(f"more than {MOST_TIME} us or {MOST_MEMORY} kB")
+    figures(folder, 1)
 
 
 def check_memory(folder):
@@ -929,9 +963,12 @@ def check_memory(folder):
         print(f"{len(nets):,} installs, of which {len(nets) // 4:,} were refused: status 3 once the kernel takes them")
 
 
-def check():
+def check(is_figures):
     needs("ip", "iproute2")
     needs(FIB_KERNEL, "libmnl-dev, after which `make -C netlink` builds it,")
+    if is_figures:
+        with tempfile.TemporaryDirectory() as folder:
+            return figures(folder, 10)
     needs("birdc", "bird2")
     with tempfile.TemporaryDirectory() as folder:
         hops = f"{folder}/hops"

@@ -10,15 +10,13 @@ import select
 import shutil
 import signal
 import socket
-import struct
 import subprocess
-import sys
 import tempfile
 import time
 from pathlib import Path
 
 import netlink
-from common import HERE, Numbers, Page, any_addresses, bird, ends, fault, hops_of, namespace, needs, refused, same, text, tool
+from common import HERE, Numbers, Page, any_addresses, bird, ends, fault, hops_of, namespace, needs, same, text, tool
 from live_check import inside, socket_in, wait_for
 from streams import COMMAND
 
@@ -549,7 +547,7 @@ def frr():
         configured(folder, place, fpm + static)
         chain.page.blocks.insert(0, commands)
         three(chain, "leader", "keep", "frr")
-        wait_for("the dump", lambda: "the dump is over" in chain.said("frr"))
+        wait_for("the dump", lambda: "the dump is over" in chain.said("frr"), LONG)
         chain.page.gives("".join(sorted(chain.commands().splitlines(keepends=True))))
         chain.page.gives(Path(chain.files[0]).read_text())
         for rule in blocks(chain.page, None).splitlines():
