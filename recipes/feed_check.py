@@ -4,7 +4,6 @@ import contextlib
 import ipaddress
 import os
 import random
-import re
 import subprocess
 import tempfile
 import time
@@ -100,9 +99,10 @@ def memories(own):
     for pid in tool("ip", "netns", "pids", own).split():
         with contextlib.suppress(FileNotFoundError, TypeError):
             words = Path(f"/proc/{pid}/cmdline").read_text().split("\0")
-            name = next((Path(word).name for word in words if not re.match(r"\S*(?:python3?|sh|env)$|-", word)), words[0])
+            name = next((f"recipes/{Path(word).name}" for word in words if "/recipes/" in word), Path(words[0]).name)
             found.append((peak(pid), name))
-    return ", ".join(f"{name} {kilobytes / 1024:.0f}" for kilobytes, name in sorted(found, reverse=True) if name not in ("bash", "tail"))
+    return ", ".join(f"{name} {kilobytes / 1024:.0f}" for kilobytes, name in sorted(found, reverse=True)
+                     if name not in ("bash", "sh", "tail", "nsenter"))
 
 
 def start(chain, recipe, folder, place):

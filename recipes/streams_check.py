@@ -552,6 +552,7 @@ def frr():
         chain.page.gives(Path(chain.files[0]).read_text())
         for rule in blocks(chain.page, None).splitlines():
             tool(*inside(own), *rule.split())
+        chain.removal = blocks(chain.page, None).split()
         chain.page.end()
         configured(folder, place, "".join(f"no {line}\n" for line in static.splitlines()))
         for line in LINES[1:]:
@@ -601,6 +602,7 @@ def frr_ends(chain, upstream, held, folder, place):
         wait_for("zebra's end", lambda: "zebra has gone" in chain.said("frr"))
         routes = {"a": changed(routes["a"]) if "changes" in title else routes["a"]}
         upstream.set(routes)
+        tool(*inside(chain.own), *chain.removal)
         start_daemons(place, chain.own)
         configured(folder, place, chain.fpm + BGPD)
         if "changes" in title:
