@@ -4,6 +4,8 @@ import contextlib
 import ipaddress
 import os
 import random
+import re
+import socket
 import subprocess
 import tempfile
 import time
@@ -14,6 +16,7 @@ from live_check import FIB_KERNEL, Asked, inside, load, packed, peak, usable, wa
 from streams_check import BGP, BGPD, GATEWAYS, LINES, PEERS, START, Bird, blocks, chain_of, configured, daemons
 
 HOPS, QUIET, TURN, LONGEST = 6, 10, 0.5, 3600  # next hops; seconds without a new command at the end, between two looks, in all
+SIX = re.compile("-6|:.*:")
 STATIC = "protocol static s{0}x{1} {{\n  ipv{0} {{ table a{0}; import filter {{ bgp_next_hop = {2}; bgp_local_pref = 100; accept; }}; }};\n"
 
 
@@ -21,7 +24,7 @@ def feed_of(count):
     """The number of the next hop for each network, of so many networks, or of all."""
     needs("location", "location")
     lines = [line.split() for line in tool(str(HERE.parent / "bench/real_feed")).splitlines() if line.startswith("add ")]
-    held = {network: 1 + int(origin) % HOPS for _, network, origin in lines if usable(packed(network.split("/")[0])) and network[0] != ":"}
+    held = {network: 1 + int(origin) % HOPS for _, network, origin in lines if usable(packed(network.split("/")[0]))}
     return held if not count else dict(random.Random(1).sample(sorted(held.items()), count))
 
 
@@ -30,7 +33,7 @@ def configuration(held, more):
     for family in (4, 6):
         for hop in range(1, HOPS + 1):
             lines.append(STATIC.format(family, hop, GATEWAYS[family].format(hop)))
-            lines += (f"  route {network} blackhole;\n" for network, one in held.items() if one == hop and (":" in network) == (family == 6))
+            lines += (f"  route {network} blackhole;\n" for network, one in held.items() if (one, ":" in network) == (hop, family == 6))
             lines.append("}\n")
     return "".join([*lines, BGP.format("a", *PEERS["a"], more)])
 
@@ -99,7 +102,8 @@ def memories(own):
     for pid in tool("ip", "netns", "pids", own).split():
         with contextlib.suppress(FileNotFoundError, TypeError):
             words = Path(f"/proc/{pid}/cmdline").read_text().split("\0")
-            name = next((f"recipes/{Path(word).name}" for word in words if "/recipes/" in word), Path(words[0]).name)
+            path = Path(next(word for word in words if not re.fullmatch(r"\S*python\S*|-.*", word)))
+            name = ("recipes/" if path.parent.name == "recipes" else "") + path.name
             found.append((peak(pid), name))
     return ", ".join(f"{name} {kilobytes / 1024:.0f}" for kilobytes, name in sorted(found, reverse=True)
                      if name not in ("bash", "sh", "tail", "nsenter"))
@@ -127,30 +131,47 @@ def emptied(own, hops):
 
 
 def check(recipe, count="0"):
+    carry(recipe, feed_of(int(count)))
+
+
+def check_four(recipe):
+    """A machine without IPv6."""
+    draw = random.Random(3)
+    carry(recipe, {f"10.{draw.randrange(16)}.{draw.randrange(256)}.0/24": draw.randrange(1, 1 + HOPS) for _ in range(300)}, socket.AF_INET6)
+
+
+def carry(recipe, held, *families):
+    """The feed to the kernel, without sockets of these families."""
     needs("bird", "bird2")
-    held = feed_of(int(count))
-    rules = [f"{family}rule add pref 99 lookup 77" for family in ("", "-6 ")]
+    lines = [line for line in (*LINES, "rule add pref 99 lookup 77", "-6 rule add pref 99 lookup 77") if not families or not SIX.search(line)]
     more = "disabled; connect delay time 1;" if recipe == "exabgp" else "disabled; passive;"
-    with tempfile.TemporaryDirectory() as folder, namespace(*LINES, *rules) as own, contextlib.ExitStack() as rest:
-        place = rest.enter_context(daemons(folder, own)) if recipe == "frr" else None
-        chain = rest.enter_context(chain_of(folder, own))
-        control = rest.enter_context(bird(folder, configuration(held, more), *inside(own)))
+    with tempfile.TemporaryDirectory() as folder, namespace(*lines) as own, contextlib.ExitStack() as rest:
+        if families:
+            tool(*inside(own), "sysctl", "-q", "-w", "net.ipv6.conf.all.disable_ipv6=1")
+        place = rest.enter_context(daemons(folder, own, *families)) if recipe == "frr" else None
+        chain = rest.enter_context(chain_of(folder, own, *families))
+        control = rest.enter_context(bird(folder, configuration(held, more), *inside(own, *families)))
         start(chain, recipe, folder, place)
         if recipe == "frr":
             configured(folder, place, BGPD)
-        print(f"{len(held):,} networks, {sum(':' in network for network in held):,} of IPv6; load {load()}", flush=True)
-        begun = time.monotonic()
-        Bird(folder, control, PEERS, more).say("enable a")
-        last, level, batches = carried_out(chain, len(held), begun)
-        print(f"from the start of the session: the last command after {last:.0f} s, the kernel's last route after {level:.0f} s, in "
-              f"{batches:,} batches; load {load()} on {os.cpu_count()} processors")
-        print(f"MB at most: {memories(own)}", flush=True)
-        points = points_of(held, 10000)
-        found = Asked(own).ask(points)
-        wrong = [(ipaddress.ip_address(point), one, other) for point, one, other in zip(points, found, expected(held, points)) if one != other]
-        same("wrong answers of the kernel", wrong[:3], [])
-        print(f"{len(points):,} addresses, half of them in networks of the feed: the kernel uses the hop of the longest network for each")
+        measure(folder, held, own, chain, Bird(folder, control, PEERS, more), families)
         chain.close()
         emptied(own, chain.files[0])
     for path in chain.files if recipe == "exabgp" else ():
         Path(path).unlink(missing_ok=True)
+
+
+def measure(folder, held, own, chain, upstream, families):
+    what = " on a machine without IPv6" if families else f", {sum(map(':'.__contains__, held)):,} of IPv6"
+    print(f"{len(held):,} networks{what}; load {load()}", flush=True)
+    begun = time.monotonic()
+    upstream.say("enable a")
+    last, level, batches = carried_out(chain, len(held), begun)
+    print(f"from the start of the session: the last command after {last:.0f} s, the kernel's last route after {level:.0f} s, in "
+          f"{batches:,} batches; load {load()} on {os.cpu_count()} processors")
+    print(f"MB at most: {memories(own)}", flush=True)
+    points = [point for point in points_of(held, 10000) if not families or len(point) == 4]
+    answers = zip(map(ipaddress.ip_address, points), Asked(own).ask(points), expected(held, points))
+    wrong = [answer for answer in answers if answer[1] != answer[2]]
+    same("wrong answers of the kernel", wrong[:3], [])
+    print(f"{len(points):,} addresses, most of them in networks of the feed: the kernel uses the hop of the longest network for each")

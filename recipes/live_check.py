@@ -23,9 +23,22 @@ from typing import NamedTuple
 from common import FIB_KERNEL, INSTALLER, PROGRAM, Page, any_addresses, bird, fault, namespace, needs, refused, same, text, tool
 
 
-def inside(own):
-    """The words that run a command in this namespace."""
-    return ["nsenter", f"--net=/run/netns/{own}"]
+def inside(own, *families):
+    """The words that run a command in this namespace, without sockets of these families."""
+    before = [sys.executable, __file__, *map(str, map(int, families)), "--"] if families else []
+    return [*before, "nsenter", f"--net=/run/netns/{own}"]
+
+
+def refuse_sockets(*families):
+    """Refuses this process sockets of these families: seccomp(2), on x86-64."""
+    load, is_equal, end, count = 0x20, 0x15, 0x06, len(families)
+    steps = [(load, 0, 0, 0), (is_equal, 0, count + 1, 41), (load, 0, 0, 16),
+             *((is_equal, count - at, 0, family) for at, family in enumerate(families)),
+             (end, 0, 0, 0x7FFF0000), (end, 0, 0, 0x50000 | errno.EAFNOSUPPORT)]
+    code = ctypes.create_string_buffer(b"".join(struct.pack("=HBBI", *step) for step in steps))
+    program, library = struct.pack("@HP", len(steps), ctypes.addressof(code)), ctypes.CDLL(None)
+    for words in ((38, 1, 0, 0, 0), (22, 2, program, 0, 0)):  # PR_SET_NO_NEW_PRIVS; PR_SET_SECCOMP, SECCOMP_MODE_FILTER
+        same("prctl", library.prctl(*words), 0)
 
 
 class Kernel:
@@ -432,11 +445,11 @@ def is_part(part, whole):
 
 
 @contextlib.contextmanager
-def kept(own, hops, log, folder):
+def kept(own, hops, log, folder, *families):
     """`keep`, in the background, once its first `sync` is carried out. Its lines on standard error are printed in the end."""
     said = Path(folder, "said")
     with open(said, "w") as file:
-        process = subprocess.Popen([*inside(own), sys.argv[0], "keep", hops, "77", log], stderr=file)
+        process = subprocess.Popen([*inside(own, *families), sys.argv[0], "keep", hops, "77", log], stderr=file)
         try:
             wait_for("the first sync", lambda: "first `sync`" in said.read_text())
             yield process
@@ -647,12 +660,12 @@ class Small:
 
 
 @contextlib.contextmanager
-def small(folder, *lines, log=(), hops=("1 via 192.0.2.1 dev lan", "2 via 192.0.2.2 dev lan", "3 via 203.0.113.3 dev lan")):
+def small(folder, *lines, families=(), log=(), hops=("1 via 192.0.2.1 dev lan", "2 via 192.0.2.2 dev lan", "3 via 203.0.113.3 dev lan")):
     """These lines for `ip`, these changes in the log."""
     with namespace(*LAN, *lines) as own, tempfile.TemporaryDirectory(dir=folder) as place:
         Path(place, "hops").write_text(text(hops))
         put_log(f"{place}/log", *log)
-        with kept(own, f"{place}/hops", f"{place}/log", place) as process:
+        with kept(own, f"{place}/hops", f"{place}/log", place, *families) as process:
             yield Small(own, place, process)
 
 
@@ -734,23 +747,12 @@ def check_shorter(folder):
 
 
 def check_families(folder):
-    """a family without the table, or that is switched off, does not stop the other one"""
-    with small(folder, "route replace blackhole default metric 4294967295 table 77", log=("set 10.1.0.0/16 1",)) as chain:
+    """a family without the table, that is switched off, or without sockets does not stop the other one"""
+    with small(folder, families=(socket.AF_INET6,), log=("set 10.1.0.0/16 1",)) as chain:
         chain.wait(_1=1)
         tool(*inside(chain.own), "sysctl", "-q", "-w", "net.ipv6.conf.all.disable_ipv6=1")
         put_log(chain.log, "set 10.2.0.0/16 1")
         chain.wait(_2=1)
-
-
-def netlink_alone():
-    """Refuses this process all sockets but those of netlink, as the unit of `keep` does: seccomp(2), on x86-64."""
-    load, is_equal, end = 0x20, 0x15, 0x06
-    steps = ((load, 0, 0, 0), (is_equal, 0, 3, 41), (load, 0, 0, 16), (is_equal, 1, 0, socket.AF_NETLINK),
-             (end, 0, 0, 0x50000 | errno.EAFNOSUPPORT), (end, 0, 0, 0x7FFF0000))
-    code = ctypes.create_string_buffer(b"".join(struct.pack("=HBBI", *step) for step in steps))
-    program, library = struct.pack("@HP", len(steps), ctypes.addressof(code)), ctypes.CDLL(None)
-    for words in ((38, 1, 0, 0, 0), (22, 2, program, 0, 0)):  # PR_SET_NO_NEW_PRIVS; PR_SET_SECCOMP, SECCOMP_MODE_FILTER
-        same("prctl", library.prctl(*words), 0)
 
 
 def check_sandbox(folder):
@@ -759,8 +761,8 @@ def check_sandbox(folder):
     with namespace(*LAN) as own:
         for mode, given, wanted in (("load", "install 10.1.0.0/16 1\ninstall 2001:db8::/32 drop\nok\n", "ok\n"),
                                     ("list", "", "have 10.1.0.0/16 1\nhave 2001:db8::/32 drop\nok\n")):
-            done = subprocess.run([*inside(own), FIB_KERNEL, mode, f"{folder}/way", "77"], input=given, capture_output=True, text=True,
-                                  preexec_fn=netlink_alone)
+            command = [*inside(own, socket.AF_UNIX, socket.AF_INET, socket.AF_INET6), FIB_KERNEL, mode, f"{folder}/way", "77"]
+            done = subprocess.run(command, input=given, capture_output=True, text=True)
             same(f"`{mode}` with sockets of netlink alone", [done.returncode, done.stdout, done.stderr], [0, wanted, ""])
 
 
@@ -903,14 +905,16 @@ def by_ip(own, _, batches):
 
 
 def measured(own, hops, family, by, count, runs):
-    """The least cost of so many runs, for installs and removes, each in a batch of its own and all in one batch."""
+    """The least costs of so many runs, and the most memory: installs and removes, each in a batch of its own and all in one batch."""
     nets, found = drawn_networks(family == 6, 100000), {}
     lists = {"installs": [f"install {net} {DRAWN.choice(HOPS)}" for net in nets], "removes": [f"remove {net}" for net in nets]}
     for _ in range(runs):
         for title, batches in [(f"single {word}", [[one] for one in lines[:count]]) for word, lines in lists.items()] + \
                               [(f"{word} in one batch", [lines]) for word, lines in lists.items()]:
             found.setdefault(title, []).append(by(own, hops, batches))
-    return {title: min(costs, key=lambda cost: cost.processor) for title, costs in found.items()}
+    return {title: min(costs, key=lambda one: one.processor)._replace(clock=min(one.clock for one in costs),
+                                                                      memory=max(one.memory for one in costs))
+            for title, costs in found.items()}
 
 
 def figures(folder, runs):
@@ -983,3 +987,9 @@ def check(is_figures):
             check_restarts(session, changes)
             session.close()
             check_kept(own, hops, nets, folder)
+
+
+if __name__ == "__main__":
+    words = sys.argv.index("--")
+    refuse_sockets(*map(int, sys.argv[1:words]))
+    os.execvp(sys.argv[words + 1], sys.argv[words + 1:])

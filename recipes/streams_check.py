@@ -111,8 +111,8 @@ def changed(held, preferences=(100,)):
 class Chain:
     """The page's commands, its two files, and the processes in the background."""
 
-    def __init__(self, folder, own, **tools):
-        self.page = Page(f"{folder}/page", **tools)
+    def __init__(self, folder, own, *families):
+        self.page, self.inside = Page(f"{folder}/page"), inside(own, *families)
         self.folder, self.own, self.processes = self.page.folder, own, {}
         self.shown = {}
         for name in ("ROUTES_FIB", "FIB_KERNEL"):
@@ -122,7 +122,7 @@ class Chain:
     def start(self, name, command):
         """Runs a command in the namespace until the end."""
         where, said = self.page.where(), open(f"{self.folder}/{name}.said", "a")
-        self.processes[name] = subprocess.Popen([*inside(self.own), "bash", "-c", f"exec {command}" if "|" not in command else command],
+        self.processes[name] = subprocess.Popen([*self.inside, "bash", "-c", f"exec {command}" if "|" not in command else command],
                                                 start_new_session=True, stdout=said, stderr=said, **where)
         said.close()
 
@@ -279,8 +279,8 @@ def milliseconds(chain, change):
 
 
 @contextlib.contextmanager
-def chain_of(folder, own, **tools):
-    chain = Chain(folder, own, **tools)
+def chain_of(folder, own, *families):
+    chain = Chain(folder, own, *families)
     try:
         yield chain
     finally:
@@ -505,22 +505,22 @@ BGPD = """router bgp 64500
 
 
 @contextlib.contextmanager
-def daemons(folder, own):
+def daemons(folder, own, *families):
     """FRR's daemons in this namespace. FRR's user must be able to find its sockets, whose folder is returned."""
     place = f"{folder}/frr"
     os.mkdir(place)
     os.chmod(folder, 0o755)
     shutil.chown(place, "frr", "frrvty")
     try:
-        start_daemons(place, own)
+        start_daemons(place, own, *families)
         yield place
     finally:
         stop_daemons(place, "-TERM")
 
 
-def start_daemons(place, own):
+def start_daemons(place, own, *families):
     for daemon, *more in (("zebra", "-M", "dplane_fpm_nl"), ("staticd",), ("bgpd", "-p", "0")):
-        tool(*inside(own), f"/usr/lib/frr/{daemon}", *more, "-d", "-f", "/dev/null", "-P", "0", "-i", f"{place}/{daemon}.pid", "-z",
+        tool(*inside(own, *families), f"/usr/lib/frr/{daemon}", *more, "-d", "-f", "/dev/null", "-P", "0", "-i", f"{place}/{daemon}.pid", "-z",
              f"{place}/zserv.api", "--vty_socket", place)
 
 
