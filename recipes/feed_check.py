@@ -143,7 +143,8 @@ def check_four(recipe):
 def carry(recipe, held, *families):
     """The feed to the kernel, without sockets of these families."""
     needs("bird", "bird2")
-    lines = [line for line in (*LINES, "rule add pref 99 lookup 77", "-6 rule add pref 99 lookup 77") if not families or not SIX.search(line)]
+    lines = [*LINES, "rule add pref 99 lookup 77", "-6 rule add pref 99 lookup 77"]
+    lines = [line for line in lines if not families or not SIX.search(line)]
     more = "disabled; connect delay time 1;" if recipe == "exabgp" else "disabled; passive;"
     with tempfile.TemporaryDirectory() as folder, namespace(*lines) as own, contextlib.ExitStack() as rest:
         if families:
