@@ -163,7 +163,7 @@ def carry(recipe, held, *families):
 
 
 def measure(folder, held, own, chain, upstream, families):
-    what = " on a machine without IPv6" if families else f", {sum(map(':'.__contains__, held)):,} of IPv6"
+    what = " on a machine without IPv6" if families else f", {sum(':' in network for network in held):,} of IPv6"
     print(f"{len(held):,} networks{what}; load {load()}", flush=True)
     begun = time.monotonic()
     upstream.say("enable a")
