@@ -519,7 +519,7 @@ def daemons(folder, own, *families):
 
 
 def start_daemons(place, own, *families):
-    for daemon, *more in (("zebra", "-M", "dplane_fpm_nl"), ("staticd",), ("bgpd", "-p", "0")):
+    for daemon, *more in (("zebra", "-M", "dplane_fpm_nl", "-s", "90000000"), ("staticd",), ("bgpd", "-p", "0")):
         tool(*inside(own, *families), f"/usr/lib/frr/{daemon}", *more, "-d", "-f", "/dev/null", "-P", "0", "-i", f"{place}/{daemon}.pid", "-z",
              f"{place}/zserv.api", "--vty_socket", place)
 
