@@ -140,7 +140,9 @@ class Chain:
             self.stop(name)
 
     def commands(self):
-        return Path(self.files[1]).read_text()
+        """The whole lines of the file, which may grow meanwhile."""
+        contents = Path(self.files[1]).read_text()
+        return contents[:contents.rfind("\n") + 1]
 
     def state(self):
         """The preference of each next hop of each network, after all commands."""
