@@ -21,8 +21,8 @@ from live_check import inside, socket_in, wait_for
 from streams import COMMAND
 
 DRAWN = random.Random(1)
-LONG = 90  # seconds that a daemon has for a change, on a busy machine
-QUIET = {"exabgp": 10, "gobgp": 5, "frr": 30}  # seconds without a route, after which a dump is over here
+LONG = 180  # seconds that a daemon has for a change, on a busy machine
+QUIET = {"exabgp": 10, "gobgp": 5, "frr": 60}  # seconds without a route, after which a dump is over here
 LINES = ("address add 192.0.2.254/24 dev lan", "address add 2001:db8:5::254/64 dev lan nodad",
          *(f"address add 198.18.0.{at}/32 dev lo" for at in (1, 2, 253, 254)))
 PEERS = {"a": ("198.18.0.1", "198.18.0.254"), "b": ("198.18.0.2", "198.18.0.253")}
