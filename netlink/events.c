@@ -63,13 +63,13 @@ static void take_link(const struct nlmsghdr *head)
 static void take_address(const struct nlmsghdr *head)
 {
     const struct ifaddrmsg *address = mnl_nlmsg_get_payload(head);
-    char name[IFNAMSIZ] = "?";
+    const struct nlattr *name = attribute(head, sizeof *address, IFA_LABEL);
     if (!uses_device(address->ifa_index, NULL))
         return;
     if (address->ifa_family == AF_INET6)
         try_soon();
     else
-        begin_again("an address of the link %s changed", if_indextoname(address->ifa_index, name) ? name : "?");
+        begin_again("an address of the link %s changed", name ? mnl_attr_get_str(name) : "?");
 }
 
 static void take_route(const struct nlmsghdr *head)

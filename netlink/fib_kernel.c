@@ -173,8 +173,8 @@ static uint32_t option(const char *word, uint32_t least, uint32_t most, const ch
 static void begin(const char *mode, const char *hops, uint32_t table, uint32_t protocol)
 {
     bool lists = !strcmp(mode, "list"), watches = !strcmp(mode, "watch");
-    open_hops(hops);
     uint32_t port = open_kernel(table, protocol);
+    open_hops(hops);
     int signals = lists ? -1 : open_signals();
     if (!lists)
         need_permission();

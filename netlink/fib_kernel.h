@@ -33,6 +33,7 @@ bool uses_device(uint32_t device, const char *name);
 /* kernel.c */
 uint32_t open_kernel(uint32_t table, uint32_t protocol);                    /* the port of the socket for operations */
 struct answer ask(const struct network *network, const struct hop *hop);   /* install, or remove if there is no hop */
+uint32_t find_device(const char *name);          /* its index, or 0 */
 void need_permission(void);
 void list_routes(void);
 

@@ -112,7 +112,7 @@ static int compare_ways(const void *a, const void *b)
 static void read_devices(void)
 {
     for (size_t i = 0; i < leg_count; i++)
-        legs[i].device = if_nametoindex(legs[i].name);
+        legs[i].device = find_device(legs[i].name);
     qsort(by_way, hop_count, sizeof *by_way, compare_ways);
 }
 
@@ -187,7 +187,7 @@ bool has_new_devices(const struct hop *hop)
 {
     bool is_new = false;
     for (uint32_t i = 0; i < hop->count; i++)
-        is_new |= hop->legs[i].device != if_nametoindex(hop->legs[i].name);
+        is_new |= hop->legs[i].device != find_device(hop->legs[i].name);
     if (is_new)
         read_devices();
     return is_new;

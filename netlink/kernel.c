@@ -6,7 +6,6 @@
 #include <linux/rtnetlink.h>
 #include <stdio.h>
 #include <string.h>
-#include <unistd.h>
 
 static struct mnl_socket *kernel;
 static uint32_t table, protocol, sequence;
@@ -82,17 +81,23 @@ static void read_words(const struct nlmsghdr *head, char *words, size_t room)
             snprintf(words, room, "%s", mnl_attr_get_str(one));
 }
 
-static struct answer send_and_wait(const struct nlmsghdr *head)
+static const struct nlmsghdr *send_and_wait(const struct nlmsghdr *head)
 {
-    static char buffer[4096];
-    struct answer answer = {0};
+    static char buffer[1 << 13];
     if (mnl_socket_sendto(kernel, head, head->nlmsg_len) < 0 || mnl_socket_recvfrom(kernel, buffer, sizeof buffer) < 0)
         fault("netlink: %m");
     head = (void *)buffer;
-    const struct nlmsgerr *error = mnl_nlmsg_get_payload(head);
-    if (head->nlmsg_type != NLMSG_ERROR || head->nlmsg_seq != sequence)
+    if (head->nlmsg_seq != sequence)
         fault("netlink: an answer to another message");
-    answer.error = -error->error;
+    return head;
+}
+
+static struct answer answer_of(const struct nlmsghdr *head)
+{
+    const struct nlmsgerr *error = mnl_nlmsg_get_payload(head);
+    struct answer answer = {.error = -error->error};
+    if (head->nlmsg_type != NLMSG_ERROR)
+        fault("netlink: an answer of the type %u", head->nlmsg_type);
     if (answer.error && head->nlmsg_flags & NLM_F_ACK_TLVS)
         read_words(head, answer.words, sizeof answer.words);
     return answer;
@@ -109,7 +114,22 @@ struct answer ask(const struct network *network, const struct hop *hop)
     mnl_attr_put(head, RTA_DST, network->family == AF_INET ? 4 : 16, network->address);
     if (hop)
         put_hop(head, route, hop);
-    return send_and_wait(head);
+    return answer_of(send_and_wait(head));
+}
+
+/* A sandbox may refuse the sockets that if_nametoindex(3) opens. */
+uint32_t find_device(const char *name)
+{
+    char buffer[256];
+    struct nlmsghdr *head = mnl_nlmsg_put_header(buffer);
+    mnl_nlmsg_put_extra_header(head, sizeof(struct ifinfomsg));
+    head->nlmsg_type = RTM_GETLINK;
+    head->nlmsg_flags = NLM_F_REQUEST;
+    head->nlmsg_seq = ++sequence;
+    mnl_attr_put_strz(head, IFLA_IFNAME, name);
+    mnl_attr_put_u32(head, IFLA_EXT_MASK, RTEXT_FILTER_SKIP_STATS);
+    const struct nlmsghdr *told = send_and_wait(head);
+    return told->nlmsg_type == RTM_NEWLINK ? ((const struct ifinfomsg *)mnl_nlmsg_get_payload(told))->ifi_index : 0;
 }
 
 uint32_t open_kernel(uint32_t of_table, uint32_t of_protocol)
@@ -170,15 +190,16 @@ static uint32_t legs_of(const struct rtmsg *route, const struct nlattr *const *h
     return count;
 }
 
-static int print_route(const struct nlmsghdr *head, void *unused)
+static int print_route(const struct nlmsghdr *head, void *family)
 {
     const struct rtmsg *route = mnl_nlmsg_get_payload(head);
     const struct nlattr *has[RTA_MAX + 1] = {0};
     struct leg legs[MOST_LEGS + 1];
     struct hop way = {.legs = legs};
     char net[INET6_ADDRSTRLEN];
-    (void)unused;
     mnl_attr_parse(head, sizeof *route, keep_attribute, has);
+    if (route->rtm_family != *(uint8_t *)family)
+        return MNL_CB_OK;
     if (route->rtm_protocol != protocol || !has[RTA_TABLE] || mnl_attr_get_u32(has[RTA_TABLE]) != table || route->rtm_flags & RTM_F_CLONED)
         return MNL_CB_OK;
     inet_ntop(route->rtm_family, has[RTA_DST] ? mnl_attr_get_payload(has[RTA_DST]) : &in6addr_any, net, sizeof net);
@@ -200,22 +221,20 @@ static int end_list(const struct nlmsghdr *head, void *unused)
     return error < 0 ? MNL_CB_ERROR : MNL_CB_STOP;
 }
 
-/* A machine without IPv6 has no routes of IPv6, and a table that does not exist has none. */
+/* A table that does not exist has no routes. Without IPv6 the kernel lists the routes of other families in place of those of IPv6. */
 static void list_family(uint8_t family)
 {
     static mnl_cb_t ends[] = {[NLMSG_ERROR] = end_list, [NLMSG_DONE] = end_list};
     static char buffer[1 << 16];
     struct nlmsghdr *head = mnl_nlmsg_put_header(buffer);
-    int size, probe = socket(family, SOCK_DGRAM | SOCK_CLOEXEC, 0);
-    if (probe < 0 && errno == EAFNOSUPPORT)
-        return;
-    close(probe);
+    uint32_t port = mnl_socket_get_portid(kernel);
+    int size;
     start(head, RTM_GETROUTE, NLM_F_DUMP, family);
     if (mnl_socket_sendto(kernel, head, head->nlmsg_len) < 0)
         fault("netlink: %m");
     do
         size = mnl_socket_recvfrom(kernel, buffer, sizeof buffer);
-    while (size > 0 && (size = mnl_cb_run2(buffer, size, sequence, mnl_socket_get_portid(kernel), print_route, NULL, ends, NLMSG_DONE + 1)) > 0);
+    while (size > 0 && (size = mnl_cb_run2(buffer, size, sequence, port, print_route, &family, ends, NLMSG_DONE + 1)) > 0);
     if (size < 0 && errno == EINTR)
         begin_again("the table changed while it was listed");
     if (size < 0 && errno != ENOENT)

@@ -1,6 +1,7 @@
 """Drives a kernel in network namespaces by routes_fib and fib_kernel, and asks it between single operations: `recipes/live check`."""
 import contextlib
 import ctypes
+import errno
 import ipaddress
 import os
 import random
@@ -17,13 +18,27 @@ import threading
 import time
 from collections import Counter
 from pathlib import Path
+from typing import NamedTuple
 
 from common import FIB_KERNEL, INSTALLER, PROGRAM, Page, any_addresses, bird, fault, namespace, needs, refused, same, text, tool
 
 
-def inside(own):
-    """The words that run a command in this namespace."""
-    return ["nsenter", f"--net=/run/netns/{own}"]
+def inside(own, *families):
+    """The words that run a command in this namespace, without sockets of these families."""
+    before = [sys.executable, __file__, *map(str, map(int, families)), "--"] if families else []
+    return [*before, "nsenter", f"--net=/run/netns/{own}"]
+
+
+def refuse_sockets(*families):
+    """Refuses this process sockets of these families: seccomp(2), on x86-64."""
+    load, is_equal, end, count = 0x20, 0x15, 0x06, len(families)
+    steps = [(load, 0, 0, 0), (is_equal, 0, count + 1, 41), (load, 0, 0, 16),
+             *((is_equal, count - at, 0, family) for at, family in enumerate(families)),
+             (end, 0, 0, 0x7FFF0000), (end, 0, 0, 0x50000 | errno.EAFNOSUPPORT)]
+    code = ctypes.create_string_buffer(b"".join(struct.pack("=HBBI", *step) for step in steps))
+    program, library = struct.pack("@HP", len(steps), ctypes.addressof(code)), ctypes.CDLL(None)
+    for words in ((38, 1, 0, 0, 0), (22, 2, program, 0, 0)):  # PR_SET_NO_NEW_PRIVS; PR_SET_SECCOMP, SECCOMP_MODE_FILTER
+        same("prctl", library.prctl(*words), 0)
 
 
 class Kernel:
@@ -430,11 +445,11 @@ def is_part(part, whole):
 
 
 @contextlib.contextmanager
-def kept(own, hops, log, folder):
+def kept(own, hops, log, folder, *families):
     """`keep`, in the background, once its first `sync` is carried out. Its lines on standard error are printed in the end."""
     said = Path(folder, "said")
     with open(said, "w") as file:
-        process = subprocess.Popen([*inside(own), sys.argv[0], "keep", hops, "77", log], stderr=file)
+        process = subprocess.Popen([*inside(own, *families), sys.argv[0], "keep", hops, "77", log], stderr=file)
         try:
             wait_for("the first sync", lambda: "first `sync`" in said.read_text())
             yield process
@@ -446,8 +461,8 @@ def kept(own, hops, log, folder):
             print(f"said: {line}")
 
 
-def wait_for(what, holds):
-    for _ in range(300):
+def wait_for(what, holds, seconds=30):
+    for _ in range(10 * seconds):
         if holds():
             return
         time.sleep(0.1)
@@ -645,12 +660,12 @@ class Small:
 
 
 @contextlib.contextmanager
-def small(folder, *lines, log=(), hops=("1 via 192.0.2.1 dev lan", "2 via 192.0.2.2 dev lan", "3 via 203.0.113.3 dev lan")):
+def small(folder, *lines, families=(), log=(), hops=("1 via 192.0.2.1 dev lan", "2 via 192.0.2.2 dev lan", "3 via 203.0.113.3 dev lan")):
     """These lines for `ip`, these changes in the log."""
     with namespace(*LAN, *lines) as own, tempfile.TemporaryDirectory(dir=folder) as place:
         Path(place, "hops").write_text(text(hops))
         put_log(f"{place}/log", *log)
-        with kept(own, f"{place}/hops", f"{place}/log", place) as process:
+        with kept(own, f"{place}/hops", f"{place}/log", place, *families) as process:
             yield Small(own, place, process)
 
 
@@ -732,12 +747,23 @@ def check_shorter(folder):
 
 
 def check_families(folder):
-    """a family without the table, or that is switched off, does not stop the other one"""
-    with small(folder, "route replace blackhole default metric 4294967295 table 77", log=("set 10.1.0.0/16 1",)) as chain:
+    """a family without the table, that is switched off, or without sockets does not stop the other one"""
+    with small(folder, families=(socket.AF_INET6,), log=("set 10.1.0.0/16 1",)) as chain:
         chain.wait(_1=1)
         tool(*inside(chain.own), "sysctl", "-q", "-w", "net.ipv6.conf.all.disable_ipv6=1")
         put_log(chain.log, "set 10.2.0.0/16 1")
         chain.wait(_2=1)
+
+
+def check_sandbox(folder):
+    """a sandbox that refuses all sockets but those of netlink, as the unit does"""
+    Path(folder, "way").write_text("1 via 192.0.2.1 dev lan\n")
+    with namespace(*LAN) as own:
+        for mode, given, wanted in (("load", "install 10.1.0.0/16 1\ninstall 2001:db8::/32 drop\nok\n", "ok\n"),
+                                    ("list", "", "have 10.1.0.0/16 1\nhave 2001:db8::/32 drop\nok\n")):
+            command = [*inside(own, socket.AF_UNIX, socket.AF_INET, socket.AF_INET6), FIB_KERNEL, mode, f"{folder}/way", "77"]
+            done = subprocess.run(command, input=given, capture_output=True, text=True)
+            same(f"`{mode}` with sockets of netlink alone", [done.returncode, done.stdout, done.stderr], [0, wanted, ""])
 
 
 def check_permission(folder):
@@ -834,52 +860,87 @@ def peak(pid):
     return int(re.search(r"VmHWM:\s+(\d+)", Path(f"/proc/{pid}/status").read_text())[1])
 
 
+class Cost(NamedTuple):
+    """Of an operation: microseconds of the processor in the program and in the kernel, and of the clock. The most kB of the process."""
+    user: float
+    system: float
+    clock: float
+    memory: int
+
+    @property
+    def processor(self):
+        return self.user + self.system
+
+
+def cost(used, begun, batches, memory):
+    count = sum(map(len, batches)) / 1e6
+    return Cost(used[0] / count, used[1] / count, (time.monotonic() - begun) / count, memory)
+
+
 def by_netlink(own, hops, batches):
-    """Each batch is given once the `ok` of the batch before has come: microseconds of the processor for an operation, and kB."""
-    process = subprocess.Popen([*inside(own), FIB_KERNEL, "load", hops, "77"], stdin=subprocess.PIPE, stdout=subprocess.PIPE)
-    for batch in batches:
-        process.stdin.write(text([*batch, "ok"]).encode())
-        process.stdin.flush()
-        same("the end of a batch", process.stdout.readline(), b"ok\n")
+    """Each batch is given once the `ok` of the batch before has come."""
+    process = subprocess.Popen([*inside(own), FIB_KERNEL, "load", hops, "77"], stdin=subprocess.PIPE, stdout=subprocess.PIPE, bufsize=0)
+    given, begun = [text([*batch, "ok"]).encode() for batch in batches], time.monotonic()
+    for batch in given:
+        process.stdin.write(batch)
+        same("the end of a batch", process.stdout.read(3), b"ok\n")
     most = peak(process.pid)
     process.stdin.close()
     _, status, used = os.wait4(process.pid, 0)
     process.returncode = status
     same("the status of fib_kernel", status, 0)
     process.stdout.close()
-    return 1e6 * (used.ru_utime + used.ru_stime) / sum(map(len, batches)), most
+    return cost((used.ru_utime, used.ru_stime), begun, batches, most)
 
 
 def by_ip(own, _, batches):
     """The same by an `ip -batch -` for each batch. Its memory is at least that of this program."""
-    before = resource.getrusage(resource.RUSAGE_CHILDREN)
+    before, begun = resource.getrusage(resource.RUSAGE_CHILDREN), time.monotonic()
     for batch in batches:
         lines = (f"route del {words[1]}" if words[0] == "remove" else f"route replace {words[1]} via inet6 fe80::{words[2]} dev lan"
                  for words in map(str.split, batch))
         tool("ip", "-n", own, "-batch", "-", given=text(f"{line} proto 77 table 77" for line in lines))
     after = resource.getrusage(resource.RUSAGE_CHILDREN)
-    return 1e6 * (after.ru_utime - before.ru_utime + after.ru_stime - before.ru_stime) / sum(map(len, batches)), after.ru_maxrss
+    return cost((after.ru_utime - before.ru_utime, after.ru_stime - before.ru_stime), begun, batches, after.ru_maxrss)
+
+
+def measured(own, hops, family, by, count, runs):
+    """The least costs of so many runs, and the most memory: installs and removes, each in a batch of its own and all in one batch."""
+    nets, found = drawn_networks(family == 6, 100000), {}
+    lists = {"installs": [f"install {net} {DRAWN.choice(HOPS)}" for net in nets], "removes": [f"remove {net}" for net in nets]}
+    for _ in range(runs):
+        for title, batches in [(f"single {word}", [[one] for one in lines[:count]]) for word, lines in lists.items()] + \
+                              [(f"{word} in one batch", [lines]) for word, lines in lists.items()]:
+            found.setdefault(title, []).append(by(own, hops, batches))
+    return {title: min(costs, key=lambda one: one.processor)._replace(clock=min(one.clock for one in costs),
+                                                                      memory=max(one.memory for one in costs))
+            for title, costs in found.items()}
+
+
+def figures(folder, runs):
+    """Prints the costs of fib_kernel, the least of so many runs, and those of `ip`, of one run."""
+    hops = f"{folder}/few"
+    Path(hops).write_text(text(f"{hop} via fe80::{hop} dev lan" for hop in HOPS))
+    print(f"| load {load()} | us, fib_kernel | user | system | per s | kB | us, ip | kB |\n|---|---|---|---|---|---|---|---|")
+    with namespace() as own:
+        for family in (4, 6):
+            ours, theirs = measured(own, hops, family, by_netlink, 10000, runs), measured(own, hops, family, by_ip, 500, 1)
+            for title, one in ours.items():
+                other = theirs[title]
+                print(f"| IPv{family}, {title} | {one.processor:.1f} | {one.user:.1f} | {one.system:.1f} | {1e6 / one.clock:,.0f} | "
+                      f"{one.memory:,} | {other.processor:,.1f} | {'' if 'single' in title else f'{other.memory:,}'} |", flush=True)
+                if one.processor > MOST_TIME or one.memory > MOST_MEMORY:
+                    fault(f"more than {MOST_TIME} us or {MOST_MEMORY} kB")
+    print(f"least of {runs} runs of fib_kernel; load {load()} on {os.cpu_count()} processors")
+
+
+def load():
+    return Path("/proc/loadavg").read_text().split()[0]
 
 
 def check_measures(folder):
     """the processor's time for an operation, and the memory"""
-    hops = f"{folder}/few"
-    Path(hops).write_text(text(f"{hop} via fe80::{hop} dev lan" for hop in HOPS))
-    print("| | us, fib_kernel | kB | us, ip | kB |\n|---|---|---|---|---|")
-    with namespace() as own:
-        for family in (4, 6):
-            nets, figures = drawn_networks(family == 6, 100000), {}
-            lists = {"installs": [f"install {net} {DRAWN.choice(HOPS)}" for net in nets], "removes": [f"remove {net}" for net in nets]}
-            for by, count in ((by_netlink, 10000), (by_ip, 500)):
-                for title, operations in lists.items():
-                    figures[by, f"single {title}"] = by(own, hops, [[operation] for operation in operations[:count]])
-                for title, operations in lists.items():
-                    figures[by, f"{title} in one batch"] = by(own, hops, [operations])
-            for (_, title), (one, kilobytes) in list(figures.items())[:4]:
-                other, more = figures[by_ip, title]
-                print(f"| IPv{family}, {title} | {one:.1f} | {kilobytes:,} | {other:,.1f} | {'' if 'single' in title else f'{more:,}'} |")
-                if one > MOST_TIME or kilobytes > MOST_MEMORY:
-                    fault(f"more than {MOST_TIME} us or {MOST_MEMORY} kB")
+    figures(folder, 1)
 
 
 def check_memory(folder):
@@ -906,15 +967,18 @@ def check_memory(folder):
         print(f"{len(nets):,} installs, of which {len(nets) // 4:,} were refused: status 3 once the kernel takes them")
 
 
-def check():
+def check(is_figures):
     needs("ip", "iproute2")
     needs(FIB_KERNEL, "libmnl-dev, after which `make -C netlink` builds it,")
+    if is_figures:
+        with tempfile.TemporaryDirectory() as folder:
+            return figures(folder, 10)
     needs("birdc", "bird2")
     with tempfile.TemporaryDirectory() as folder:
         hops = f"{folder}/hops"
         check_page(folder)
-        for one in (check_lines, check_refused, check_silent, check_events, check_shorter, check_families, check_permission, check_own,
-                    check_memory, check_measures):
+        for one in (check_lines, check_refused, check_silent, check_events, check_shorter, check_families, check_sandbox, check_permission,
+                    check_own, check_memory, check_measures):
             one(folder)
             print(f"seen: {one.__doc__}")
         Path(hops).write_text(text(f"{hop} via fe80::{hop} dev lan" for hop in HOPS))
@@ -923,3 +987,9 @@ def check():
             check_restarts(session, changes)
             session.close()
             check_kept(own, hops, nets, folder)
+
+
+if __name__ == "__main__":
+    words = sys.argv.index("--")
+    refuse_sockets(*map(int, sys.argv[1:words]))
+    os.execvp(sys.argv[words + 1], sys.argv[words + 1:])

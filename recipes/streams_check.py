@@ -10,21 +10,19 @@ import select
 import shutil
 import signal
 import socket
-import struct
 import subprocess
-import sys
 import tempfile
 import time
 from pathlib import Path
 
 import netlink
-from common import HERE, Numbers, Page, any_addresses, bird, ends, fault, hops_of, namespace, needs, refused, same, text, tool
+from common import HERE, Numbers, Page, any_addresses, bird, ends, fault, hops_of, namespace, needs, same, text, tool
 from live_check import inside, socket_in, wait_for
 from streams import COMMAND
 
 DRAWN = random.Random(1)
-LONG = 90  # seconds that a daemon has for a change, on a busy machine
-QUIET = {"exabgp": 10, "gobgp": 5, "frr": 30}  # seconds without a route, after which a dump is over here
+LONG = 180  # seconds that a daemon has for a change, on a busy machine
+QUIET = {"exabgp": 10, "gobgp": 5, "frr": 60}  # seconds without a route, after which a dump is over here
 LINES = ("address add 192.0.2.254/24 dev lan", "address add 2001:db8:5::254/64 dev lan nodad",
          *(f"address add 198.18.0.{at}/32 dev lo" for at in (1, 2, 253, 254)))
 PEERS = {"a": ("198.18.0.1", "198.18.0.254"), "b": ("198.18.0.2", "198.18.0.253")}
@@ -113,8 +111,8 @@ def changed(held, preferences=(100,)):
 class Chain:
     """The page's commands, its two files, and the processes in the background."""
 
-    def __init__(self, folder, own, **tools):
-        self.page = Page(f"{folder}/page", **tools)
+    def __init__(self, folder, own, *families):
+        self.page, self.inside = Page(f"{folder}/page"), inside(own, *families)
         self.folder, self.own, self.processes = self.page.folder, own, {}
         self.shown = {}
         for name in ("ROUTES_FIB", "FIB_KERNEL"):
@@ -124,7 +122,7 @@ class Chain:
     def start(self, name, command):
         """Runs a command in the namespace until the end."""
         where, said = self.page.where(), open(f"{self.folder}/{name}.said", "a")
-        self.processes[name] = subprocess.Popen([*inside(self.own), "bash", "-c", f"exec {command}" if "|" not in command else command],
+        self.processes[name] = subprocess.Popen([*self.inside, "bash", "-c", f"exec {command}" if "|" not in command else command],
                                                 start_new_session=True, stdout=said, stderr=said, **where)
         said.close()
 
@@ -142,7 +140,9 @@ class Chain:
             self.stop(name)
 
     def commands(self):
-        return Path(self.files[1]).read_text()
+        """The whole lines of the file, which may grow meanwhile."""
+        contents = Path(self.files[1]).read_text()
+        return contents[:contents.rfind("\n") + 1]
 
     def state(self):
         """The preference of each next hop of each network, after all commands."""
@@ -281,8 +281,8 @@ def milliseconds(chain, change):
 
 
 @contextlib.contextmanager
-def chain_of(folder, own, **tools):
-    chain = Chain(folder, own, **tools)
+def chain_of(folder, own, *families):
+    chain = Chain(folder, own, *families)
     try:
         yield chain
     finally:
@@ -507,22 +507,22 @@ BGPD = """router bgp 64500
 
 
 @contextlib.contextmanager
-def daemons(folder, own):
+def daemons(folder, own, *families):
     """FRR's daemons in this namespace. FRR's user must be able to find its sockets, whose folder is returned."""
     place = f"{folder}/frr"
     os.mkdir(place)
     os.chmod(folder, 0o755)
     shutil.chown(place, "frr", "frrvty")
     try:
-        start_daemons(place, own)
+        start_daemons(place, own, *families)
         yield place
     finally:
         stop_daemons(place, "-TERM")
 
 
-def start_daemons(place, own):
-    for daemon, *more in (("zebra", "-M", "dplane_fpm_nl"), ("staticd",), ("bgpd", "-p", "0")):
-        tool(*inside(own), f"/usr/lib/frr/{daemon}", *more, "-d", "-f", "/dev/null", "-P", "0", "-i", f"{place}/{daemon}.pid", "-z",
+def start_daemons(place, own, *families):
+    for daemon, *more in (("zebra", "-M", "dplane_fpm_nl", "-s", "90000000"), ("staticd",), ("bgpd", "-p", "0")):
+        tool(*inside(own, *families), f"/usr/lib/frr/{daemon}", *more, "-d", "-f", "/dev/null", "-P", "0", "-i", f"{place}/{daemon}.pid", "-z",
              f"{place}/zserv.api", "--vty_socket", place)
 
 
@@ -549,11 +549,12 @@ def frr():
         configured(folder, place, fpm + static)
         chain.page.blocks.insert(0, commands)
         three(chain, "leader", "keep", "frr")
-        wait_for("the dump", lambda: "the dump is over" in chain.said("frr"))
+        wait_for("the dump", lambda: "the dump is over" in chain.said("frr"), LONG)
         chain.page.gives("".join(sorted(chain.commands().splitlines(keepends=True))))
         chain.page.gives(Path(chain.files[0]).read_text())
         for rule in blocks(chain.page, None).splitlines():
             tool(*inside(own), *rule.split())
+        chain.removal = blocks(chain.page, None).split()
         chain.page.end()
         configured(folder, place, "".join(f"no {line}\n" for line in static.splitlines()))
         for line in LINES[1:]:
@@ -603,6 +604,7 @@ def frr_ends(chain, upstream, held, folder, place):
         wait_for("zebra's end", lambda: "zebra has gone" in chain.said("frr"))
         routes = {"a": changed(routes["a"]) if "changes" in title else routes["a"]}
         upstream.set(routes)
+        tool(*inside(chain.own), *chain.removal)
         start_daemons(place, chain.own)
         configured(folder, place, chain.fpm + BGPD)
         if "changes" in title:
