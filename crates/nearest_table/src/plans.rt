@@ -272,9 +272,10 @@ fn hop_or(route: Option<Option<u32>>, other: Option<u32>) -> Option<u32>
     }
 }
 
-/// Returns the edits that turn the installed table into a nearest one with the new hops, ascending. An edit is a block with the hop to
-/// install, or with none if its route is removed. Each address gets the hop of the longest change that contains it, and keeps its old
-/// hop if none does. No fewer edits do this. All changes must be inside the block.
+/// Returns the edits that turn the installed table into a nearest one with the new hops. An edit is a block with the hop to install, or
+/// with none if its route is removed. The blocks to install ascend, and so do those whose routes are removed. Each address gets the hop
+/// of the longest change that contains it, and keeps its old hop if none does. No fewer edits do this. All changes must be inside the
+/// block.
 ///
 /// # Errors
 /// `AllocError` if an allocation fails.
