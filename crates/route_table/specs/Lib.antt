@@ -5,6 +5,7 @@ pub mod Operations
 pub mod Given
 pub mod InnerFamilies
 pub mod InnerSides
+pub mod InnerSearched
 pub mod InnerEntries
 pub mod InnerRoutes
 pub mod InnerGoverning
