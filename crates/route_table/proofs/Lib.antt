@@ -5,6 +5,7 @@ pub mod Room
 pub mod Seams
 pub mod Searches
 pub mod Stores
+pub mod Searched
 pub mod Found
 pub mod Calls
 pub mod InPlace

@@ -5,7 +5,6 @@ pub mod Operations
 pub mod Given
 pub mod InnerFamilies
 pub mod InnerSides
-pub mod InnerSearched
 pub mod InnerEntries
 pub mod InnerRoutes
 pub mod InnerGoverning

@@ -9,7 +9,6 @@ ghost use Rattle.route_choices.specs.Choices.{has_none, holds_hop, is_one_too_ma
 ghost use Rattle.route_choices.specs.Hops.{IsHop};
 ghost use Rattle.route_laws.specs.Onwards.{count_of, routes_after, routes_from};
 ghost use Rattle.route_laws.specs.Networks.{IsLeaf, choices_at, networks_outside, routes_of, with_choice, with_choices, without_choice, without_stored};
-ghost use Rattle.route_table.specs.InnerSearched.{only_hop};
 ghost use Rattle.route_table.specs.InnerSides.{IsSide};
 ghost use Rattle.route_table.specs.Refusals.{IsRefused};
 ghost use Rattle.route_table.specs.Tries.{map_of};
@@ -41,7 +40,7 @@ fn change(
 /// The networks in arguments must be blocks: callers clear the host bits.
 #[derive(Drop)]
 pub(crate) struct Side<P: OfFamily, const CAPACITY: usize> {
-    networks: PrefixMap<P, Choices<CAPACITY>>,
+    pub(crate) networks: PrefixMap<P, Choices<CAPACITY>>,
 }
 
 impl<P: OfFamily, const CAPACITY: usize> Model for Side<P, CAPACITY> {
@@ -310,15 +309,6 @@ impl<P: OfFamily> Side<P, 1> {
     {
         let walk = Box::new(alloc, self.networks.into_iter())?;
         Ok(SideRoutes::new(Entries::Owned(walk)))
-    }
-
-    /// The hop of exactly this network, if it is stored.
-    pub(crate) fn hop(&self, net: P) -> Option<Hop>
-        requires { IsBlock (block_of P.family (P.parts net)) }
-        ensures { result ≡ only_hop (choices_at self.now (block_of P.family (P.parts net))) }
-    {
-        let (hop, _) = self.networks.get(&net)?.best();
-        Some(hop)
     }
 
     /// Removes exactly this network, if it is stored.
