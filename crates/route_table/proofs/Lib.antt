@@ -5,7 +5,7 @@ pub mod Room
 pub mod Seams
 pub mod Searches
 pub mod Stores
-pub mod Searched
+pub mod Asked
 pub mod Found
 pub mod Calls
 pub mod InPlace
@@ -34,3 +34,4 @@ pub mod Looks
 pub mod Paints
 pub mod Repaints
 pub mod UpdateRows
+pub mod Updating

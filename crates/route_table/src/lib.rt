@@ -35,4 +35,5 @@ mod searched;
 mod side;
 mod side_routes;
 mod table;
+mod updates;
 mod walks;

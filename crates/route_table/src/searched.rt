@@ -1,26 +1,13 @@
 //! A side as the search for nearest tables sees it: blocks are paths.
-ghost use Rattle.std.specs.Prelude.{◌≡◌, ◌≤◌, length};
 ghost use Rattle.ipnet_addr.specs.Addresses.{width};
-ghost use Rattle.ipnet_blocks.specs.Blocks.{IsBlock};
-ghost use Rattle.ipnet_blocks.specs.Networks.{block_of};
 ghost use Rattle.route_laws.specs.Networks.{routes_of};
 ghost use Rattle.route_table.specs.InnerLeast.{entries_of};
-ghost use Rattle.route_table.specs.InnerSides.{block_at};
 
 use crate::family::OfFamily;
 use crate::side::Side;
 use nearest_table::tables::Table;
 use prefix_trie::{prefix_of, truncated};
 use trie_core::Path;
-
-/// The network of a path.
-pub(crate) fn net_of<P: OfFamily>(block: &Path) -> P
-    requires { length block.now ≤ width P.family }
-    ensures value { block_of P.family (P.parts result) ≡ block_at P.family block.now }
-    ensures block { IsBlock (block_of P.family (P.parts result)) }
-{
-    prefix_of(block)
-}
 
 impl<P: OfFamily> Table for Side<P, 1> {
     ghost width = { width P.family };

@@ -7,12 +7,10 @@ use Rattle.std.proofs.lemmas.Option.{same_Some}
 use Rattle.std.proofs.Math.ListN.{length-append}
 use Rattle.std.specs.FinMap.{entries, find, get, get-entries}
 use Rattle.std.specs.Option.{option_map}
-use Rattle.ipnet_addr.specs.Addresses.{Family, width}
+use Rattle.ipnet_addr.specs.Addresses.{Family}
 use Rattle.ipnet_addr.proofs.Members.{In}
 use Rattle.ipnet_blocks.specs.BitStrings.{begins, bits_cmp}
-use Rattle.ipnet_blocks.specs.Networks.{Network, block_of}
 use Rattle.ipnet_blocks.proofs.BitStrings.{begins_on, begins_take, take_begins}
-use Rattle.ipnet_blocks.proofs.NetworkBlocks.{block_round_trip}
 use Rattle.least_table.specs.Tables.{longer, longest, own}
 use Rattle.nearest_table.specs.Asked.{NoneInside, at, hop_if, shorter}
 use Rattle.nearest_table.specs.Blocks.{around, bare, inner}
@@ -24,21 +22,15 @@ use Rattle.route_choices.proofs.Kept.{In-from_filter, In-map, In-filter, map_In}
 use Rattle.route_laws.specs.Networks.{routes_of}
 use Rattle.route_laws.proofs.Matches.{bools_same}
 use Rattle.route_table.specs.InnerLeast.{entries_of}
-use Rattle.route_table.specs.InnerSides.{block_at, stored_at, stored_in}
+use Rattle.route_table.specs.InnerSides.{stored_at, stored_in}
 use Rattle.route_table.proofs.Entries.{get_of, in_entries}
 use Rattle.route_table.proofs.Stores.{string_or_not}
-use Rattle.route_table.proofs.Strings.{network_of_string, string_of_block}
-use Rattle.trie_core.specs.Bits.{number_from}
+use Rattle.route_table.proofs.Strings.{string_of_block}
 use Rattle.trie_core.specs.Inside.{NothingInside}
 use Rattle.trie_core.specs.Nodes.{BitMap}
 use Rattle.trie_core.specs.Search.{IsLongest, NoBeginning}
 use Rattle.trie_core.proofs.Leaves.{goes_on}
 use Rattle.trie_core.proofs.Strings.{same, same-Decides}
-
--- a key that is made of bits has their block
-pub block_of_bits : (f : Family) {K : Type 0} (of_bits : List Bool → K) (parts : K → Network) (parts_are : (s : List Bool) → parts (of_bits s) ≡ record { number = number_from (width f) s; len = length s })
-    → (s : List Bool) → length s ≤ width f → (k : K) → k ≡ of_bits s → block_of f (parts k) ≡ block_at f s
-block_of_bits f of_bits parts parts_are s h k e = ap (λ j. block_of f (parts j)) e ∙ ap (block_of f) (parts_are s ∙ network_of_string f s h) ∙ block_round_trip (block_at f s)
 
 -- ---- the longest of some routes
 
