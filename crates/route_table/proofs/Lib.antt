@@ -28,6 +28,7 @@ pub mod HopRuns
 pub mod Halves
 pub mod Owned
 pub mod FlatPieces
+pub mod FamilyBits
 pub mod LeastBits
 pub mod Looks
 pub mod Paints
