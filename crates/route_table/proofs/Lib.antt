@@ -29,6 +29,7 @@ pub mod Halves
 pub mod Owned
 pub mod FlatPieces
 pub mod FamilyBits
+pub mod PartBits
 pub mod LeastBits
 pub mod Looks
 pub mod Paints
