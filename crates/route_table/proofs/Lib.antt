@@ -30,6 +30,7 @@ pub mod Owned
 pub mod FlatPieces
 pub mod FamilyBits
 pub mod PartBits
+pub mod NewRoutes
 pub mod LeastBits
 pub mod Looks
 pub mod Paints
