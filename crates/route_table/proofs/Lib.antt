@@ -29,6 +29,9 @@ pub mod HopRuns
 pub mod Halves
 pub mod Owned
 pub mod FlatPieces
+pub mod FamilyBits
+pub mod PartBits
+pub mod NewRoutes
 pub mod LeastBits
 pub mod Looks
 pub mod Paints
