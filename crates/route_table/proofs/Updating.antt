@@ -1,5 +1,5 @@
 -- Changes as a table, the block around them, and the operations of edits, one after another.
-use Rattle.std.proofs.Common.{◌≡◌, ℕ, ◌+◌, ◌<◌, ◌≤◌, inl, inr, ⊎_elim, Bool, true, false, List, [], ◌∷◌, ◌++◌, All, Option, Some, None, length, map, take, refl, sym, ap, ◌∙◌, subst, not, arith, append_assoc, append-nil}
+use Rattle.std.proofs.Common.{◌≡◌, ℕ, ◌+◌, ◌<◌, ◌≤◌, ◌⊎◌, inl, inr, ⊎_elim, Bool, true, false, List, [], ◌∷◌, ◌++◌, All, Option, Some, None, length, map, take, refl, sym, ap, ◌∙◌, subst, not, arith, append_assoc, append-nil}
 use Rattle.std.specs.List.{slice_index_or}
 use Rattle.std.proofs.lemmas.List.{map-append, reverse-append, take_more}
 use mathlib.Core.List.{reverse}
@@ -8,9 +8,10 @@ use Rattle.ipnet_addr.proofs.Members.{In, In-cases, In-left}
 use Rattle.ipnet_addr.proofs.Ascending.{All-from_In, In-from_All}
 use Rattle.ipnet_blocks.specs.BitStrings.{begins}
 use Rattle.ipnet_blocks.specs.Blocks.{Block, IsBlock, bit_string}
-use Rattle.ipnet_blocks.specs.Networks.{IsTruncated, Network}
+use Rattle.ipnet_blocks.specs.Networks.{IsTruncated, Network, block_of}
 use Rattle.ipnet.specs.IpNets.{block, family, net_in, network_at, parts}
 use Rattle.ipnet.specs.declared.ip_net.IpNet.{IpNet}
+use Rattle.least_table.specs.InnerOrders.{IsInOrder}
 use Rattle.least_table.specs.Tables.{IsTable}
 use Rattle.nearest_table.specs.Changed.{AreInside, MakeNearest}
 use Rattle.nearest_table.specs.Edits.{blocks, installed_in, removed_in}
@@ -23,16 +24,23 @@ use Rattle.route_laws.specs.Batches.{AreChanges}
 use Rattle.route_laws.specs.LeastTables.{routes_for}
 use Rattle.route_laws.specs.Operations.{Operation, Install, Remove, after, after_all, installs}
 use Rattle.route_laws.specs.Overwritten.{overwritten}
+use Rattle.route_laws.specs.Networks.{Stored, routes_of}
 use Rattle.route_laws.specs.Tables.{Route, route_of}
+use Rattle.route_laws.specs.Tables as Routes
+use Rattle.route_laws.proofs.Insides.{rising}
+use Rattle.route_laws.proofs.Networks.{routes_are_table}
+use Rattle.route_table.specs.InnerEntries.{GivesNet}
 use Rattle.route_table.specs.InnerLeast.{entry_of, entries_of}
-use Rattle.route_table.specs.InnerSides.{block_at}
+use Rattle.route_table.specs.InnerSides.{IsSide, block_at}
 use Rattle.route_table.specs.InnerUpdates.{AddsInstalls, AddsRemoves, AreTruncated, AreWithin, blocks_in, installed_route, operations_of, overwritten_all, routes_in}
 use Rattle.route_table.specs.Operations.{network_of, operation_of}
 use Rattle.route_table.specs.declared.between.Operation as Given
 use Rattle.route_table.specs.declared.between.Operation.TheVariants as One
-use Rattle.route_laws.proofs.NetworksAt.{of_network_at}
+use Rattle.route_laws.proofs.NetworksAt.{block_of-net_in, of_network_at}
 use Rattle.route_table.proofs.Asked.{longest_none}
+use Rattle.route_table.proofs.FamilyBits.{Blocks, blocks_of, order_entries, table_entries}
 use Rattle.route_table.proofs.Looks.{is_truncated}
+use Rattle.route_table.proofs.Sides.{routes_of_side}
 use Rattle.route_table.proofs.Strings.{network_of_string}
 use Rattle.trie_core.specs.Bits.{number_from}
 
@@ -100,6 +108,28 @@ begun_inside w b M all x l out = longest_none (entries_of M) x (λ q i e.
     let f : begins b q.0 ≡ true = ap (λ (p : List Bool × Option ℕ). begins b p.0) t.2 ∙ all t.0 t.1 in
     let g = sym out ∙ begins_through b q.0 x f e in
     cc)
+
+-- what is left of the routes of a side, when one more was looked at
+module _ (f : Family) {K : Type 0} (bits_in : K → List Bool) (parts_in : K → Network) (bits_are : (k : K) → bits_in k ≡ bit_string (block_of f (parts_in k))) where
+  begun_itself : (b : List Bool) (p : K × Hop × ℕ) (r : Route) (n : IpNet) → n ≡ net_in f (parts_in p.0) → r ≡ route_of n p.1 p.2 → begins b (bits_in p.0) ≡ true → begins b (bit_string r.block) ≡ true
+  begun_itself b p r n is e h = subst (λ s. begins b s ≡ true) (bits_are p.0 ∙ sym (ap bit_string (ap Route.block e ∙ ap block is ∙ block_of-net_in f (parts_in p.0)))) h
+
+  pub begun_first : (M left : List Route) (p : K × Hop × ℕ) → GivesNet f parts_in M (Some p) left → (r : Route) → In r M → (begins (bits_in p.0) (bit_string r.block) ≡ true) ⊎ In r left
+  begun_first M left p g r i = ⊎_elim
+      (λ e. inl (begun_itself (bits_in p.0) p r (net_in f (parts_in p.0)) refl e (begins_itself (bits_in p.0))))
+      (λ j. inr j)
+      (subst (λ l. In r l) g.0 i)
+
+  pub begun_next : (old new : List Bool) (M rest left : List Route) (p : K × Hop × ℕ) → GivesNet f parts_in rest (Some p) left → begins new old ≡ true → begins new (bits_in p.0) ≡ true
+      → ((r : Route) → In r M → (begins old (bit_string r.block) ≡ true) ⊎ In r rest) → (r : Route) → In r M → (begins new (bit_string r.block) ≡ true) ⊎ In r left
+  begun_next old new M rest left p g wide here so_far r i = ⊎_elim
+      (λ e. inl (begins_through new old (bit_string r.block) wide e))
+      (λ j. ⊎_elim (λ e. inl (begun_itself new p r (net_in f (parts_in p.0)) refl e here)) (λ k. inr k) (subst (λ l. In r l) g.0 j))
+      (so_far r i)
+
+-- all were looked at
+pub begun_all : (b : List Bool) (M left : List Route) → left ≡ [] → ((r : Route) → In r M → (begins b (bit_string r.block) ≡ true) ⊎ In r left) → AreBegun b M
+begun_all b M left e all r i = ⊎_elim (λ h. h) (λ j. absurd (subst (λ l. In r l) e j)) (all r i)
 
 -- ---- operations one by one
 
@@ -210,6 +240,20 @@ network_of_bits f of_bits parts_in parts_are s h k e = ap (λ j. net_in f (parts
 pub width_is_short : (f : Family) → width f ≤ 128
 width_is_short Ipv4 = omega arith
 width_is_short Ipv6 = omega arith
+
+-- the routes of a side as bit strings
+module _ (f : Family) (T : List Stored) (side : IsSide f T) where
+  is_table : Routes.IsTable (routes_of T)
+  is_table = routes_are_table T side.table
+
+  side_blocks : Blocks f (routes_of T)
+  side_blocks = blocks_of f (routes_of T) is_table (In-from_All (λ (r : Route). r.block.family ≡ f) (routes_of T) (routes_of_side f T (routes_of T) side refl))
+
+  pub side_table : IsTable (width f) (entries_of (routes_of T))
+  side_table = table_entries f (routes_of T) side_blocks (rising (routes_of T) is_table)
+
+  pub side_order : IsInOrder (entries_of (routes_of T))
+  side_order = order_entries f (routes_of T) side_blocks (rising (routes_of T) is_table)
 
 -- ---- the blocks of edits
 
