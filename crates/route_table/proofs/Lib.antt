@@ -31,6 +31,7 @@ pub mod FlatPieces
 pub mod FamilyBits
 pub mod PartBits
 pub mod NewRoutes
+pub mod Overlaid
 pub mod LeastBits
 pub mod Looks
 pub mod Paints
