@@ -32,6 +32,7 @@ pub mod FlatPieces
 pub mod FamilyBits
 pub mod PartBits
 pub mod NewRoutes
+pub mod Overlaid
 pub mod LeastBits
 pub mod Looks
 pub mod Paints
