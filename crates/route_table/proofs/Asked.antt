@@ -65,7 +65,7 @@ longest_none t x none = go (longest t x) refl
 pub longest_is : (t : List (List Bool × Option ℕ)) (x : List Bool) (r : List Bool × Option ℕ) → In r t → begins r.0 x ≡ true
     → ((q : List Bool × Option ℕ) → In q t → begins q.0 x ≡ true → (q ≡ r) ⊎ (length q.0 < length r.0)) → longest t x ≡ Some r
 longest_is [] x r i b most = absurd i
-longest_is (d ∷ t) x r i b most = ⊎_elim first later i
+longest_is (d ∷ t) x r i b most = ⊎_elim first (λ j. later (longest_is t x r j b (λ q k. most q (inr k)))) i
   where
     first : r ≡ d → longest (d ∷ t) x ≡ Some r
     first e = ap (λ c. cond c (longer d (longest t x)) (longest t x)) (ap (λ (q : List Bool × Option ℕ). begins q.0 x) (sym e) ∙ b) ∙ go (longest t x) refl
@@ -82,8 +82,8 @@ longest_is (d ∷ t) x r i b most = ⊎_elim first later i
             let f : nat_lt (length d.0) (length p.0) ≡ false = grind (arith, nat_tests, n) in
             ap (λ c. cond c (Some p) (Some d)) f ∙ ap Some (sym e)
 
-    later : In r t → longest (d ∷ t) x ≡ Some r
-    later j = ap (λ o. cond (begins d.0 x) (longer d o) o) (longest_is t x r j b (λ q k. most q (inr k))) ∙ go (begins d.0 x) refl
+    later : longest t x ≡ Some r → longest (d ∷ t) x ≡ Some r
+    later rest = ap (λ o. cond (begins d.0 x) (longer d o) o) rest ∙ go (begins d.0 x) refl
       where
         pick : (c : Bool) → d ≡ r → cond c (Some r) (Some d) ≡ Some r
         pick true z = refl
