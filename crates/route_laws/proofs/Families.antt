@@ -10,7 +10,7 @@ use Rattle.ipnet_blocks.proofs.Search.{whole_is_block, inside_whole}
 use Rattle.std.proofs.Math.Nat.{div-eq_of_lt}
 use Rattle.route_laws.specs.Fewest.{handed, hop_under, GivesInside, IsFewest, LeastIsFewest}
 use Rattle.route_laws.specs.LeastTables.{HasHops, IsLeast}
-use Rattle.route_laws.specs.Tables.{Route, hop_at, match_number, match_of}
+use Rattle.route_laws.specs.Tables.{Route, IsTable, hop_at, match_number, match_of}
 use Rattle.route_laws.proofs.Insides.{within, within_gives, sound, few, joined_table, joined_first, joined_second}
 
 -- tables with equal hops have the same least tables
@@ -23,7 +23,7 @@ least_too g h same N k = record { hops = hops_moved g h same N k.hops; fewest = 
 families_apart : Ipv4 ≡ Ipv6 → ⊥
 families_apart e = let r = ap rank e in absurd (omega arith)
 
-family_tested : (a b : Block) → is_inside a b ≡ true → a.family ≡ b.family
+pub family_tested : (a b : Block) → is_inside a b ≡ true → a.family ≡ b.family
 family_tested a b e = family_from_test a.family b.family (and_parts _ _ (and_parts _ _ e).0).0
 
 pub apart : (b : Block) → is_inside b (family_block Ipv4) ≡ true → is_inside b (family_block Ipv6) ≡ true → ⊥
@@ -48,11 +48,16 @@ hop_is N x = go (match_of N (host x))
     go None = refl
     go (Some r) = refl
 
--- the routes of one family
+-- the routes of one family give its addresses their hops
+pub part_hops : (N : List Route) → IsTable N → (f : Family) (s : Option ℕ) → GivesInside (hop_under s N) (family_block f) s (within (family_block f) N)
+part_hops N t f s = within_gives (family_block f) (whole_is_block f) N t (hop_under s N) s
+    (λ x m r i k. inside_whole r.block f (sound N t r i).0 (sym k.0 ∙ m.0))
+    (λ x m. refl)
+
 pub part_gives : (h : Address → Option ℕ) (N : List Route) → HasHops h N → (f : Family) → GivesInside h (family_block f) None (within (family_block f) N)
-part_gives h N g f = within_gives (family_block f) (whole_is_block f) N g.table h None
-    (λ x m r i k. inside_whole r.block f (sound N g.table r i).0 (sym k.0 ∙ m.0))
-    (λ x m. hop_is N x ∙ g.same x (member_is_address (family_block f) x (whole_is_block f) m))
+part_gives h N g f =
+    let p = part_hops N g.table f None in
+    record { table = p.table; inside = p.inside; same = λ x m. p.same x m ∙ hop_is N x ∙ g.same x (member_is_address (family_block f) x (whole_is_block f) m) }
 
 module _ (h : Address → Option ℕ) (L N : List Route) (gl : GivesInside h (family_block Ipv4) None L) (gn : GivesInside h (family_block Ipv6) None N) where
   both_have : HasHops h (L ++ N)

@@ -1,5 +1,5 @@
 -- One thing in the place of all those inside its block: its members, how it is made, and the hops of a table then.
-use Rattle.std.proofs.Common.{◌≡◌, ◌-◌, ◌<◌, ◌⊎◌, inl, inr, ⊎_elim, Bool, false, not, cond, List, [], ◌∷◌, filter, Some, IsTrue, ◌↔◌, sym, ap, ◌∙◌, subst, arith}
+use Rattle.std.proofs.Common.{◌≡◌, ◌-◌, ◌<◌, ◌⊎◌, inl, inr, ⊎_elim, Bool, false, not, cond, List, [], ◌∷◌, filter, ℕ, Option, None, Some, IsTrue, true, refl, ◌↔◌, sym, ap, ◌∙◌, subst, arith}
 use Rattle.std.proofs.lemmas.Bool.{cond-false, false_from_ne_true, cond_both, cases_lt}
 use Rattle.ipnet_addr.specs.Addresses.{Address, IsAddress}
 use Rattle.ipnet_addr.proofs.Members.{In}
@@ -14,8 +14,10 @@ use Rattle.ipnet.specs.declared.ip_net.IpNet.{IpNet}
 use Rattle.route_choices.specs.Hops.{IsHop, number_of}
 use Rattle.route_choices.specs.Choices.{Choice}
 use Rattle.route_choices.proofs.Kept.{Rising-kept, filter_map_swap, In-from_filter, In-filter}
+use Rattle.route_laws.specs.Fewest.{handed, hop_under}
 use Rattle.route_laws.specs.Overwritten.{without_inside, overwritten}
-use Rattle.route_laws.specs.Tables.{Route, IsTable, longer, longest, match_of, match_number, hop_at, with_route}
+use Rattle.route_laws.specs.Tables.{Route, IsTable, longer, longest, match_of, hop_at, with_route}
+use Rattle.route_laws.proofs.Families.{hop_is}
 use Rattle.route_laws.proofs.Updates.{match_after_add, added_is_table}
 use Rattle.route_laws.specs.Networks.{IsLeaf, Stored, IsStoredTable, best_route, networks_outside, overwritten_by, routes_of}
 use Rattle.route_laws.proofs.Insides.{Sooner, filter_again, has_from_test as held_from_test, rising, table_kept}
@@ -171,13 +173,25 @@ module _ (M : List Route) (m : IsTable M) (r : Route) (ok : IsBlock r.block) whe
   outside_match x a e = ap longest (filter_again (λ s. not (is_inside s.block r.block)) (λ s. is_inside (host x) s.block) M (λ s i f. not_from (is_inside s.block r.block) (λ g.
       let t = test_from_has r.block x (inside_from_test s.block r.block (block_in M m s i) ok g x (held_from_test x a s (block_in M m s i) f)) in cc)))
 
-  pub over_hops : IsHop r.hop → (x : Address) → IsAddress x → hop_at (overwritten M r) x ≡ cond (has_address r.block x) (number_of r.hop) (hop_at M x)
-  over_hops hop x a = cond_both (has_address r.block x) (number_of r.hop) (hop_at M x) (λ o. hop_at (overwritten M r) x ≡ o)
-      (λ e. ap match_number (governed_match (overwritten M r) (over_is_table hop) r.block ok x a (record {
+  -- an address of the block matches the new route then, and any other what it did
+  pub over_match : IsHop r.hop → (x : Address) → IsAddress x → match_of (overwritten M r) (host x) ≡ cond (has_address r.block x) (Some r) (match_of M (host x))
+  over_match hop x a = cond_both (has_address r.block x) (Some r) (match_of M (host x)) (λ o. match_of (overwritten M r) (host x) ≡ o)
+      (λ e. governed_match (overwritten M r) (over_is_table hop) r.block ok x a (record {
         inside = has_from_test r.block x e;
         free = λ u c l k. ⊎_elim (λ f. l.1 (inside_itself r.block u.block (ap Route.block (sym f)))) (λ t. t.1 l.0) (over_back Route.block M (routes_placed M m) r ok u (In-from_Contains (overwritten M r) u c));
-      }) ∙ match_of_own (overwritten M r) (over_is_table hop) r (over_itself Route.block M (routes_placed M m) r ok)))
-      (λ e. ap match_number (match_after_add (without_inside M r.block) r (host x) outside_is_table (over_is_table hop) (host_is_block x a)
+      }) ∙ match_of_own (overwritten M r) (over_is_table hop) r (over_itself Route.block M (routes_placed M m) r ok))
+      (λ e. match_after_add (without_inside M r.block) r (host x) outside_is_table (over_is_table hop) (host_is_block x a)
       ∙ cond-false (is_inside (host x) r.block) (Some (longer r (match_of (without_inside M r.block) (host x)))) (match_of (without_inside M r.block) (host x))
       (false_from_ne_true (is_inside (host x) r.block) (λ f. let t = test_from_has r.block x (held_from_test x a r ok f) in cc))
-      ∙ outside_match x a e))
+      ∙ outside_match x a e)
+
+  -- so if it inherits this hop or none from outside the table
+  pub over_under : IsHop r.hop → (s : Option ℕ) (x : Address) → IsAddress x → hop_under s (overwritten M r) x ≡ cond (has_address r.block x) (number_of r.hop) (hop_under s M x)
+  over_under hop s x a = ap (handed s) (over_match hop x a) ∙ go (has_address r.block x)
+    where
+      go : (c : Bool) → handed s (cond c (Some r) (match_of M (host x))) ≡ cond c (number_of r.hop) (hop_under s M x)
+      go true = refl
+      go false = refl
+
+  pub over_hops : IsHop r.hop → (x : Address) → IsAddress x → hop_at (overwritten M r) x ≡ cond (has_address r.block x) (number_of r.hop) (hop_at M x)
+  over_hops hop x a = sym (hop_is (overwritten M r) x) ∙ over_under hop None x a ∙ ap (cond (has_address r.block x) (number_of r.hop)) (hop_is M x)

@@ -1,5 +1,5 @@
 -- The fewest operations that give each address a hop, and the tables that they lead to.
-use Rattle.std.specs.Prelude.{ℕ, ◌≤◌, ◌↔◌, List, [], Option, length}
+use Rattle.std.specs.Prelude.{◌≡◌, ℕ, ◌≤◌, ◌↔◌, List, [], Option, length}
 use Rattle.ipnet_addr.specs.Addresses.{Address}
 use Rattle.route_laws.specs.Batches.{AreChanges, batch, painted_all}
 use Rattle.route_laws.specs.LeastTables.{HasHops, IsLeast}
@@ -15,6 +15,12 @@ pub record IsFewestTo (M : List Route) (h : Address → Option ℕ) (os : List O
 pub record IsNearest (M : List Route) (h : Address → Option ℕ) (N : List Route) : Type 0 where
   pub hops : HasHops h N
   pub nearest : (L : List Route) → HasHops h L → length (between M N) ≤ length (between M L)
+
+-- the operations lead from M to a nearest table with its hops after these changes
+pub record AreUpdates (M rs : List Route) (os : List Operation) : Type 0 where
+  pub table : List Route
+  pub nearest : IsNearest M (hop_at (painted_all M rs)) table
+  pub operations : os ≡ between M table
 
 -- the operations between a table and a nearest one are the fewest
 abbrev pub NearestIsFewest : Type 0

@@ -32,3 +32,4 @@ pub mod LeastBits
 pub mod Looks
 pub mod Paints
 pub mod Repaints
+pub mod UpdateRows

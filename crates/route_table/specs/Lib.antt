@@ -15,3 +15,4 @@ pub mod InnerOwning
 pub mod InnerLeast
 pub mod InnerBetween
 pub mod InnerRepaint
+pub mod InnerUpdates
