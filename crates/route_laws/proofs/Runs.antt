@@ -1,5 +1,5 @@
 -- An installer's table has the hops that were told, and its operations make it.
-use Rattle.std.proofs.Common.{◌≡◌, ℕ, ⊎_elim, arith, Bool, true, false, cond, List, [], ◌∷◌, ◌++◌, take, Option, None, refl, sym, ap, ◌∙◌, subst}
+use Rattle.std.proofs.Common.{◌≡◌, ◌≤◌, length, ℕ, ⊎_elim, arith, Bool, true, false, cond, List, [], ◌∷◌, ◌++◌, take, Option, None, refl, sym, ap, ◌∙◌, subst}
 use Rattle.std.proofs.lemmas.Bool.{cond_both, cond-true}
 use Rattle.ipnet_addr.specs.Addresses.{Address, IsAddress}
 use Rattle.route_laws.specs.LeastTables.{IsLeast}
@@ -12,6 +12,7 @@ use Rattle.route_laws.specs.Batches.{hop_over, painted_all}
 use Rattle.route_laws.specs.Operations.{IsHitless, Operation, after_all, between}
 use Rattle.route_laws.specs.Runs.{Event, Have, Told, Sync, Installer, IsMade, MayCome, MayAllCome, after_event, after_events, given, gives, haves, start, told, with_haves}
 use Rattle.route_laws.proofs.Batches.{Changes, after-append, batch_hops, between_hitless, between_reaches, changes_from}
+use Rattle.route_laws.proofs.FewestOperations.{fewest}
 use Rattle.route_laws.proofs.Nearest.{nearest_is_fewest, painted_all_is_table}
 use Rattle.route_laws.proofs.Turning.{hitless_from}
 
@@ -56,10 +57,10 @@ holds_told h s rs N g m = record {
 
 holds_sync : (h : Address → Option ℕ) (s : Installer) (N : List Route) → Holds h s → MayCome s (Sync N) → Holds h (after_event s (Sync N))
 holds_sync h s N g m = record {
-  table = m.hops.table;
-  installed = m.hops.table;
+  table = m.0.hops.table;
+  installed = m.0.hops.table;
   same = λ e. refl;
-  hops = λ x a. m.hops.same x a ∙ g.hops x a;
+  hops = λ x a. m.0.hops.same x a ∙ g.hops x a;
 }
 
 holds_after : (es : List Event) (h : Address → Option ℕ) (s : Installer) → Holds h s → MayAllCome s es → Holds (λ x. told (h x) es x) (after_events s es)
@@ -94,12 +95,12 @@ made h s (Told rs N) g m = go s.kept refl
     go : (b : Bool) → s.kept ≡ b → after_all s.installed (cond b (between s.installed N) []) ≡ cond b N s.installed
     go true e = between_reaches s.installed N g.installed (m.1 e).hops.table
     go false e = refl
-made h s (Sync N) g m = between_reaches s.installed N g.installed m.hops.table
+made h s (Sync N) g m = between_reaches s.installed N g.installed m.0.hops.table
 
 hitless : (h : Address → Option ℕ) (s : Installer) (e : Event) → Holds h s → MayCome s e → IsHitless s.installed (gives s e)
 hitless h s (Have r) g m = nothing_turns s.installed
 hitless h s (Told rs N) g m = cond_both s.kept (between s.installed N) [] (IsHitless s.installed) (λ e. between_hitless s.installed N g.installed (m.1 e).hops.table) (λ e. nothing_turns s.installed)
-hitless h s (Sync N) g m = between_hitless s.installed N g.installed m.hops.table
+hitless h s (Sync N) g m = between_hitless s.installed N g.installed m.0.hops.table
 
 pub gives_what_it_says : (es : List Event) (e : Event) → MayAllCome start (es ++ e ∷ []) → IsMade (after_events start es) e
 gives_what_it_says es e m = let t = before_last es e start m in made (told None es) (after_events start es) e (holds es t.0) t.1
@@ -114,7 +115,7 @@ pub sync_is_least : (es : List Event) (N : List Route) → MayAllCome start (es 
 sync_is_least es N m =
     let t = before_last es (Sync N) start m in
     subst (λ (u : Installer). IsLeast (told None es) u.installed) (sym (after_last es (Sync N) start))
-    (least_too (hop_at (Installer.table (after_events start es))) (told None es) (Holds.hops (holds es t.0)) N t.1)
+    (least_too (hop_at (Installer.table (after_events start es))) (told None es) (Holds.hops (holds es t.0)) N t.1.0)
 
 pub sync_is_unseen : (es : List Event) (N : List Route) → MayAllCome start (es ++ Sync N ∷ []) → Installer.kept (after_events start es) ≡ true → (x : Address) → IsAddress x → (i : ℕ)
     → hop_at (after_all (Installer.installed (after_events start es)) (take i (gives (after_events start es) (Sync N)))) x ≡ hop_at (Installer.installed (after_events start es)) x
@@ -122,8 +123,25 @@ sync_is_unseen es N m k x a i =
     let t = before_last es (Sync N) start m in
     let g = holds es t.0 in
     ⊎_elim (λ e. e)
-    (λ e. e ∙ ap (λ T. hop_at T x) (gives_what_it_says es (Sync N) m) ∙ t.1.hops.same x a ∙ ap (λ T. hop_at T x) (sym (g.same k)))
+    (λ e. e ∙ ap (λ T. hop_at T x) (gives_what_it_says es (Sync N) m) ∙ t.1.0.hops.same x a ∙ ap (λ T. hop_at T x) (sym (g.same k)))
     (IsHitless.turns (gives_hitless es (Sync N) m) x a i i (omega arith))
+
+-- a table takes no operations to stay
+pub none_between : (M : List Route) → IsTable M → between M M ≡ []
+none_between M m = nothing (between M M) (fewest M M m m [] refl)
+  where
+    nothing : (os : List Operation) → length os ≤ 0 → os ≡ []
+    nothing [] b = refl
+    nothing (o ∷ os) b = absurd (omega (arith, b))
+
+pub sync_stays : (es : List Event) (N : List Route) → MayAllCome start (es ++ Sync N ∷ []) → Installer.kept (after_events start es) ≡ true
+    → IsLeast (told None es) (Installer.installed (after_events start es)) → gives (after_events start es) (Sync N) ≡ []
+sync_stays es N m k l =
+    let t = before_last es (Sync N) start m in
+    let g = holds es t.0 in
+    let s = after_events start es in
+    ap (between s.installed) (t.1.1 k (least_too (told None es) (hop_at s.table) (λ x a. sym (g.hops x a)) s.installed l))
+    ∙ none_between s.installed g.installed
 
 -- the same hops have the same nearest tables
 nearest_too : (M : List Route) (h g : Address → Option ℕ) → ((x : Address) → IsAddress x → h x ≡ g x) → (N : List Route) → IsNearest M h N → IsNearest M g N

@@ -95,6 +95,11 @@ abbrev pub SyncIsLeast : Type 0
 SyncIsLeast = (es : List Event) (N : List Route) → MayAllCome start (es ++ Sync N ∷ []) →
     IsLeast (told None es) (after_events start (es ++ Sync N ∷ [])).installed
 
+-- a later `Sync` has no operations if the installed table is a least one already
+abbrev pub SyncStays : Type 0
+SyncStays = (es : List Event) (N : List Route) → MayAllCome start (es ++ Sync N ∷ []) → (after_events start es).kept ≡ true →
+    IsLeast (told None es) (after_events start es).installed → gives (after_events start es) (Sync N) ≡ []
+
 -- a later `Sync` changes no hop at any moment
 abbrev pub SyncIsUnseen : Type 0
 SyncIsUnseen = (es : List Event) (N : List Route) → MayAllCome start (es ++ Sync N ∷ []) → (after_events start es).kept ≡ true →

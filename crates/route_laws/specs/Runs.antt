@@ -66,11 +66,12 @@ IsMade s (Told rs N) = after_all s.installed (gives s (Told rs N)) ≡ Installer
 IsMade s (Sync N) = after_all s.installed (gives s (Sync N)) ≡ N
 
 -- The events that may come: no `Have` after the first `Sync`; from then on, changes only with a table that is nearest to the installed
--- one and has the hops after the changes; and a `Sync` only with a least table of the committed hops.
+-- one and has the hops after the changes; and a `Sync` only with a least table of the committed hops, which is the installed table if
+-- that is a least one already.
 abbrev pub MayCome : Installer → Event → Type 0
 MayCome s (Have r) = (s.kept ≡ false) × IsBlock r.block × IsHop r.hop
 MayCome s (Told rs N) = AreChanges rs × (s.kept ≡ true → IsNearest s.installed (hop_at (painted_all s.table rs)) N)
-MayCome s (Sync N) = IsLeast (hop_at s.table) N
+MayCome s (Sync N) = IsLeast (hop_at s.table) N × (s.kept ≡ true → IsLeast (hop_at s.table) s.installed → N ≡ s.installed)
 
 -- each of the events may come in its turn
 abbrev pub MayAllCome : Installer → List Event → Type 0

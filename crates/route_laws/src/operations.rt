@@ -1,6 +1,6 @@
 //! Theorems about the operations that turn one table into another.
 ghost use Rattle.route_laws.specs.Nearest.{FewestIsNearest, LeastIsNearest, NearestIsFewest, NearestIsHitless, NearestIsNoMore};
-ghost use Rattle.route_laws.specs.OperationLaws.{BatchIsHitless, BatchReaches, BetweenIsFewest, BetweenIsHitless, BetweenReaches, FewOperations, GivenReaches, GivesHitless, GivesWhatItSays, HandedByNone, HandedByParent, HopsOfBatch, HopsOfPainted, KeepsHops, PaintedIsTable, SyncIsLeast, SyncIsUnseen, ToldAreChanges, ToldIsFewest};
+ghost use Rattle.route_laws.specs.OperationLaws.{BatchIsHitless, BatchReaches, BetweenIsFewest, BetweenIsHitless, BetweenReaches, FewOperations, GivenReaches, GivesHitless, GivesWhatItSays, HandedByNone, HandedByParent, HopsOfBatch, HopsOfPainted, KeepsHops, PaintedIsTable, SyncIsLeast, SyncIsUnseen, SyncStays, ToldAreChanges, ToldIsFewest};
 
 /// The operations between two tables turn the first into the second. On the way each address changes its hop at most once, from its
 /// hop in the first table to that in the second. No shorter sequence of operations makes the second table.
@@ -43,7 +43,7 @@ pub fn nearest()
 /// The operations of an event turn the table installed before it into the table installed after it, and so do those of all events.
 /// Each address changes its hop at most once during an event. From the first least table on, each address has the hop that was
 /// last reported, and the operations of a group of changes are the fewest of all with this effect. A later least table changes no
-/// address at any moment.
+/// address at any moment, and has no operations if the installed table is a least one already.
 pub fn runs()
     ensures operations { GivesWhatItSays }
     ensures reaches { GivenReaches }
@@ -51,5 +51,6 @@ pub fn runs()
     ensures hops { KeepsHops }
     ensures fewest { ToldIsFewest }
     ensures least { SyncIsLeast }
+    ensures stays { SyncStays }
     ensures unseen { SyncIsUnseen }
 {}
