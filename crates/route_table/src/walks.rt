@@ -10,10 +10,10 @@ ghost use Rattle.route_table.specs.Given.{AreFamilies, AreRoutes};
 use crate::hop_table::HopTable;
 use crate::routes::Routes;
 use crate::side_routes::SideRoutes;
-use crate::table::{RouteTable, cleared};
+use crate::table::{RouteTable, Table, cleared};
 use ipnet::{IpNet, Ipv4Net, Ipv6Net};
 
-impl RouteTable {
+impl<const CAPACITY: usize> Table<CAPACITY> {
     /// Returns the number of stored networks of IPv4 and of IPv6. Does not allocate.
     ///
     /// # Examples
@@ -27,7 +27,9 @@ impl RouteTable {
     {
         (self.v4.count(), self.v6.count())
     }
+}
 
+impl RouteTable {
     /// Returns the routes of the networks that contain this one, itself included, shortest first. Does not allocate.
     ///
     /// # Examples

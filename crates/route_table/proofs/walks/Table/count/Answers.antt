@@ -3,7 +3,7 @@ use Rattle.ipnet_addr.specs.Addresses.{Ipv4, Ipv6}
 use Rattle.route_laws.specs.Onwards.{count_of}
 use Rattle.route_laws.specs.Networks.{routes_of}
 use Rattle.route_table.proofs.Sides.{count_side}
-use Rattle.route_table.proofs.walks.RouteTable.count.Goals as goal
+use Rattle.route_table.proofs.walks.Table.count.Goals as goal
 
 pub returns : goal.returns
 returns c =
