@@ -34,4 +34,5 @@ mod runs;
 mod side;
 mod side_routes;
 mod table;
+mod updates;
 mod walks;
