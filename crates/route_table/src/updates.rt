@@ -7,6 +7,7 @@ ghost use Rattle.route_laws.specs.LeastTables.{routes_for};
 ghost use Rattle.route_laws.specs.Nearest.{AreUpdates};
 ghost use Rattle.route_laws.specs.Networks.{routes_of};
 ghost use Rattle.route_laws.specs.Operations.{after_all};
+ghost use Rattle.route_laws.specs.Tables.{IsTable};
 ghost use Rattle.route_table.specs.Operations.{network_of, operation_of};
 
 use crate::between::Operation;
@@ -20,8 +21,10 @@ impl HopTable {
     pub fn updates(&self, _changes: &[(IpNet, Hop)]) -> Result<Vec<Operation>, Refused>
         ensures updates { IfOk result (λ os. AreUpdates (routes_of self.now) (routes_for _changes.now) (map operation_of os.items)) }
         ensures truncated { IfOk result (λ os. All (λ o. IsTruncated (family (network_of o)) (parts (network_of o))) os.items) }
+        ensures table { IsTable (routes_of self.now) }
         ensures memory { IfErr result (λ e. e ≡ Memory) }
     {
+        let _families = self.families();
         Err(Refused::Memory)
     }
 
