@@ -60,7 +60,7 @@ part_gives h N g f =
     record { table = p.table; inside = p.inside; same = λ x m. p.same x m ∙ hop_is N x ∙ g.same x (member_is_address (family_block f) x (whole_is_block f) m) }
 
 module _ (h : Address → Option ℕ) (L N : List Route) (gl : GivesInside h (family_block Ipv4) None L) (gn : GivesInside h (family_block Ipv6) None N) where
-  both_have : HasHops h (L ++ N)
+  pub both_have : HasHops h (L ++ N)
   both_have = record {
     table = joined_table (family_block Ipv4) (family_block Ipv6) (whole_is_block Ipv4) (whole_is_block Ipv6) apart separate order h None L N gl gn;
     same = λ x a. sym (hop_is (L ++ N) x) ∙ at x x.family (in_family x a);

@@ -33,6 +33,7 @@ pub mod FamilyBits
 pub mod PartBits
 pub mod NewRoutes
 pub mod Overlaid
+pub mod FewestUpdates
 pub mod LeastBits
 pub mod Looks
 pub mod Paints

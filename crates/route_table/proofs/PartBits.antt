@@ -134,7 +134,7 @@ kept_swap {A} p q (x ∷ xs) = go (p x) (q x) refl refl (kept_swap p q xs)
     go false true e g h = rw e h
     go false false e g h = h
 
-length-between : (M L : List Route) → length (between M L) ≡ length (missing M L) + length (surplus M L)
+pub length-between : (M L : List Route) → length (between M L) ≡ length (missing M L) + length (surplus M L)
 length-between M L = length-append (installs (reverse (missing M L))) (removes (surplus M L))
     ∙ ap₂ (λ m n. m + n) (length-map (reverse (missing M L)) Install ∙ length-reverse (missing M L)) (length-map (surplus M L) (λ r. Remove (Route.block r)))
 

@@ -121,6 +121,13 @@ impl<P: OfFamily, const CAPACITY: usize> Side<P, CAPACITY> {
         let (hop, pref) = choices.best();
         Some((found.ip_net(), hop, pref))
     }
+
+    /// The number of networks.
+    pub(crate) fn count(&self) -> usize
+        ensures { result ≡ count_of P.family (routes_of self.now) }
+    {
+        self.networks.len()
+    }
 }
 
 impl<P: OfFamily> Side<P, 8> {
@@ -236,13 +243,6 @@ impl<P: OfFamily> Side<P, 8> {
         ensures bound { result ≤ (P.parts net).len / 5 + 1 }
     {
         self.networks.get_lpm_visits(&net).1
-    }
-
-    /// The number of networks.
-    pub(crate) fn count(&self) -> usize
-        ensures { result ≡ count_of P.family (routes_of self.now) }
-    {
-        self.networks.len()
     }
 
     /// The number of nodes of the trie.
