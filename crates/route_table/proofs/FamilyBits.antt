@@ -1,11 +1,10 @@
 -- A table of one family as a table over bit strings: its order, and the hops that it gives.
 use Rattle.std.proofs.Common.{◌≡◌, ℕ, ◌*◌, ◌-◌, ◌^◌, ◌≤◌, Bool, true, false, cond, nat_lt, inl, inr, List, [], ◌∷◌, length, Option, Some, None, option_map, refl, sym, ap, ◌∙◌, subst, arith}
 use Rattle.std.proofs.Math.Nat.{mod-eq_of_lt}
-use Rattle.std.specs.declared.cmp.Ordering.TheVariants.{Less}
 use Rattle.ipnet_addr.specs.Addresses.{Family, Address, IsAddress, width}
 use Rattle.ipnet_addr.proofs.Members.{In}
 use Rattle.ipnet_addr.proofs.Ascending.{All-from_In, In-from_All, Rising}
-use Rattle.ipnet_blocks.specs.BitStrings.{begins, bits_cmp}
+use Rattle.ipnet_blocks.specs.BitStrings.{begins}
 use Rattle.ipnet_blocks.specs.Blocks.{Block, IsBlock, IsBefore, IsInside, digits, bit_string, family_block, first_of, host, is_inside}
 use Rattle.ipnet_blocks.proofs.BlockLaws.{has_first}
 use Rattle.ipnet_blocks.proofs.Maximals.{member_is_address}
@@ -16,7 +15,6 @@ use Rattle.least_table.specs.InnerOrders.{ComesBeforeAll, IsInOrder}
 use Rattle.least_table.specs.Tables as bits
 use Rattle.trie_core.specs.Bits.{number_from}
 use Rattle.trie_core.proofs.Numbers.{number_bound, number-digits, one_power}
-use Rattle.route_choices.proofs.Kept.{In-map}
 use Rattle.route_laws.specs.Fewest.{handed, hop_under, GivesInside}
 use Rattle.route_laws.specs.Tables.{Route, IsTable, covering, longer, longest, match_of}
 use Rattle.route_laws.proofs.Families.{in_family}

@@ -1,27 +1,27 @@
 -- The routes of a family that a table of bit strings stands for: those of the installed table where it has them, and new ones elsewhere.
-use Rattle.std.proofs.Common.{◌≡◌, ℕ, ◌≤◌, ⊎_elim, inl, inr, Bool, true, false, cond, not, ◌&&◌, ◌||◌, List, [], ◌∷◌, filter, length, map, All, Option, Some, None, refl, sym, ap, ◌∙◌, subst}
+use Rattle.std.proofs.Common.{◌≡◌, ℕ, ◌≤◌, ⊎_elim, inl, inr, Bool, true, false, cond, not, ◌||◌, List, [], ◌∷◌, filter, length, map, All, Option, refl, sym, ap, ◌∙◌, subst}
 use Rattle.std.proofs.lemmas.Bool.{and_parts, cases_Bool, cond_both, false_from_ne_true}
-use Rattle.ipnet_addr.specs.Addresses.{Family, Address, width}
+use Rattle.ipnet_addr.specs.Addresses.{Family, width}
 use Rattle.ipnet_addr.proofs.Basics.{list_any-from_In}
 use Rattle.ipnet_addr.proofs.Members.{In}
 use Rattle.ipnet_addr.proofs.Ascending.{In-from_All}
-use Rattle.ipnet_blocks.specs.Blocks.{Block, IsBlock, bit_string, family_block, is_inside}
+use Rattle.ipnet_blocks.specs.Blocks.{Block, bit_string, family_block, is_inside}
 use Rattle.least_table.specs.InnerOrders.{IsInOrder}
 use Rattle.least_table.specs.Tables as bits
 use Rattle.least_table.proofs.Sets.{same_hop-true}
-use Rattle.nearest_table.specs.Edits.{AreEdits, blocks, installed_in, removed_in}
+use Rattle.nearest_table.specs.Edits.{AreEdits, blocks, installed_in}
 use Rattle.nearest_table.specs.Nearest as near
-use Rattle.route_choices.specs.Hops.{IsHop, hop_from, number_of}
+use Rattle.route_choices.specs.Hops.{IsHop, number_of}
 use Rattle.route_choices.proofs.Kept.{In-filter, In-from_filter, In-map, filter_map_swap, map_In, same_kept}
 use Rattle.route_laws.specs.Operations.{Operation, Remove, is_held, removes, same_route}
-use Rattle.route_laws.specs.Tables.{Route, IsTable, is_stored}
+use Rattle.route_laws.specs.Tables.{Route, IsTable}
 use Rattle.route_laws.proofs.Between.{route_itself}
 use Rattle.route_laws.proofs.Fewest.{number_from_hop}
-use Rattle.route_laws.proofs.Insides.{Sound, Sooner, sound, table_of}
+use Rattle.route_laws.proofs.Insides.{Sound, sound, table_of}
 use Rattle.route_laws.proofs.Ordered.{not_cases}
 use Rattle.route_table.specs.InnerLeast.{entry_of, entries_of}
 use Rattle.route_table.specs.InnerSides.{block_at}
-use Rattle.route_table.specs.InnerUpdates.{blocks_in, installed_route, routes_in}
+use Rattle.route_table.specs.InnerUpdates.{installed_route, routes_in}
 use Rattle.route_table.proofs.FamilyBits.{AllOf, Blocks, rising_entries}
 use Rattle.route_table.proofs.PartBits.{bits_of, held_bits, part, part_all, same_entry, string-true}
 use Rattle.route_table.proofs.Strings.{block_at_is_block, block_of_string, string_of_block}
@@ -106,10 +106,14 @@ module _ (f : Family) where
       new_sound : (e : List Bool × Option ℕ) → In e u → Sound (kept (part f M) e) × ((kept (part f M) e).block.family ≡ f)
       new_sound e i = ⊎_elim
           (λ t. let j = kept_held (part f M) e t in (sound M table (kept (part f M) e) (In-from_filter (λ q. is_inside q.block (family_block f)) M (kept (part f M) e) j).0, part_all f M (kept (part f M) e) j))
-          (λ n. subst (λ (r : Route). Sound r × (r.block.family ≡ f)) (sym (kept_new (part f M) e n))
-          ((block_at_is_block f e.0 (lengths (width f) u ok e i),
-          In-from_All (λ (r : Route). IsHop r.hop) (routes_in f es) hops (installed_route f e) (map_In (installed_route f) (installed_in es) e
-          (subst (λ (t : List (List Bool × Option ℕ)). In e t) (sym edits.installs) (In-filter (λ d. not (near.has (bits_of f M) d)) u e i (ap not n))))), refl))
+          (λ n. subst (λ (r : Route). Sound r × (r.block.family ≡ f)) (sym (kept_new (part f M) e n)) (
+            (
+              block_at_is_block f e.0 (lengths (width f) u ok e i),
+              In-from_All (λ (r : Route). IsHop r.hop) (routes_in f es) hops (installed_route f e) (map_In (installed_route f) (installed_in es) e
+                  (subst (λ (t : List (List Bool × Option ℕ)). In e t) (sym edits.installs) (In-filter (λ d. not (near.has (bits_of f M) d)) u e i (ap not n)))),
+            ),
+            refl,
+          ))
           (cases_Bool (near.has (bits_of f M) e))
 
       all_sound : (r : Route) → In r new_routes → Sound r × (r.block.family ≡ f)

@@ -1,12 +1,11 @@
 -- Changes as a table: the hops that they tell, as bit strings.
-use Rattle.std.proofs.Common.{◌≡◌, ◌⊎◌, ℕ, ⊎_elim, inl, inr, Bool, List, [], ◌∷◌, cond, length, Option, None, refl, sym, ap, ◌∙◌, subst}
+use Rattle.std.proofs.Common.{◌≡◌, ◌⊎◌, ℕ, ⊎_elim, inl, inr, Bool, List, [], ◌∷◌, length, Option, None, refl, sym, ap, ◌∙◌, subst}
 use Rattle.ipnet_addr.specs.Addresses.{Family, Address, IsAddress, width}
 use Rattle.ipnet_addr.proofs.Members.{In}
-use Rattle.ipnet_blocks.specs.Blocks.{HasAddress, bit_string, family_block, has_address, host}
+use Rattle.ipnet_blocks.specs.Blocks.{HasAddress, bit_string, family_block, host}
 use Rattle.least_table.specs.Tables as bits
 use Rattle.nearest_table.specs.Told.{told_hop}
 use Rattle.trie_core.proofs.Numbers.{number_bound}
-use Rattle.route_choices.specs.Hops.{number_of}
 use Rattle.route_laws.specs.Batches.{hop_over, painted_all}
 use Rattle.route_laws.specs.Fewest.{hop_under}
 use Rattle.route_laws.specs.Overwritten.{overwritten}

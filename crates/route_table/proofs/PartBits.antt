@@ -1,12 +1,12 @@
 -- The parts of a table in the two families, as bit strings: what they store and hold, and how far two tables are apart.
-use Rattle.std.proofs.Common.{◌≡◌, ℕ, ◌+◌, ◌≤◌, ⊎_elim, inl, inr, Bool, true, false, cond, not, ◌&&◌, List, [], ◌∷◌, ◌++◌, filter, length, map, Option, refl, sym, ap, ap₂, ◌∙◌, subst, arith, append-nil, length-append}
+use Rattle.std.proofs.Common.{◌≡◌, ℕ, ◌+◌, ◌≤◌, Bool, true, false, cond, not, ◌&&◌, List, [], ◌∷◌, ◌++◌, filter, length, Option, refl, sym, ap, ap₂, ◌∙◌, subst, arith, append-nil, length-append}
 use mathlib.Core.List.{reverse}
-use Rattle.std.proofs.lemmas.Bool.{and_parts, and_from, false_from_ne_true}
+use Rattle.std.proofs.lemmas.Bool.{and_from, false_from_ne_true}
 use Rattle.std.proofs.lemmas.List.{length-map, length-reverse}
 use Rattle.std.proofs.lemmas.List.Elements.{filter-append}
 use Rattle.ipnet_addr.specs.Addresses.{Family, Ipv4, Ipv6}
 use Rattle.ipnet_addr.proofs.Basics.{In-from_list_any, filtered_length, list_any-from_In}
-use Rattle.ipnet_addr.proofs.Members.{In, In-cases, In-left, In-right}
+use Rattle.ipnet_addr.proofs.Members.{In, In-left, In-right}
 use Rattle.ipnet_addr.proofs.Ascending.{In-from_All}
 use Rattle.ipnet_blocks.specs.Blocks.{Block, IsBlock, bit_string, family_block, is_inside, same_block}
 use Rattle.ipnet_blocks.proofs.BlockTests.{same_from_test, test_from_same}
@@ -14,7 +14,6 @@ use Rattle.ipnet_blocks.proofs.Search.{whole_is_block, inside_whole}
 use Rattle.least_table.specs.HopSets as hops
 use Rattle.least_table.proofs.Sets.{same_hop-refl}
 use Rattle.nearest_table.specs.Nearest as near
-use Rattle.route_choices.specs.Hops.{number_of}
 use Rattle.route_choices.proofs.Kept.{In-filter, In-from_filter, In-map, all_kept, filter_map_swap, map_In, none_kept, same_kept}
 use Rattle.route_laws.specs.Operations.{Install, Remove, between, installs, is_held, missing, removes, same_route, surplus}
 use Rattle.route_laws.specs.Tables.{Route, IsTable, is_stored}

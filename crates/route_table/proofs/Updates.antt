@@ -5,12 +5,11 @@ use Rattle.std.proofs.lemmas.List.{length-map}
 use Rattle.std.proofs.lemmas.List.Elements.{filter-append}
 use Rattle.ipnet_addr.specs.Addresses.{Family, Ipv4, Ipv6, Address, width}
 use Rattle.ipnet_addr.proofs.Ascending.{All-from_In, In-from_All}
-use Rattle.ipnet_addr.proofs.Members.{In}
 use Rattle.ipnet_blocks.specs.Blocks.{family_block, is_inside}
 use Rattle.least_table.specs.InnerOrders.{IsInOrder}
 use Rattle.least_table.specs.Tables as bits
 use Rattle.nearest_table.specs.Changed.{MakeNearest}
-use Rattle.nearest_table.specs.Edits.{AreEdits, blocks, installed_in, removed_in}
+use Rattle.nearest_table.specs.Edits.{AreEdits, blocks, installed_in}
 use Rattle.nearest_table.specs.Nearest as near
 use Rattle.nearest_table.specs.Told.{told_hop}
 use Rattle.route_choices.specs.Hops.{IsHop}
@@ -18,16 +17,16 @@ use Rattle.route_choices.proofs.Kept.{In-from_filter, In-map, map_append}
 use Rattle.route_laws.specs.Batches.{AreChanges, painted_all}
 use Rattle.route_laws.specs.Fewest.{GivesInside}
 use Rattle.route_laws.specs.LeastTables.{HasHops}
-use Rattle.route_laws.specs.Nearest.{AreUpdates, IsNearest}
+use Rattle.route_laws.specs.Nearest.{AreUpdates}
 use Rattle.route_laws.specs.Networks.{Stored, best_route, routes_of}
-use Rattle.route_laws.specs.Operations.{Operation, Remove, between, installs, is_held, missing, removes, surplus}
+use Rattle.route_laws.specs.Operations.{Remove, between, installs, is_held, missing, removes, surplus}
 use Rattle.route_laws.specs.Tables.{Route, IsTable, hop_at, is_stored}
 use Rattle.route_laws.proofs.Batches.{Changes, changes_from}
 use Rattle.route_laws.proofs.Families.{both_have, part_gives}
 use Rattle.route_laws.proofs.Insides.{rising, sound}
 use Rattle.route_laws.proofs.Networks.{routes_are_table}
 use Rattle.route_table.specs.Given.{AreFamilies}
-use Rattle.route_table.specs.InnerLeast.{entries_of, entry_of, hops_of}
+use Rattle.route_table.specs.InnerLeast.{entries_of, entry_of}
 use Rattle.route_table.specs.InnerSides.{IsSide, block_at}
 use Rattle.route_table.specs.InnerUpdates.{blocks_in, installed_route, operations_of, overwritten_all, routes_in}
 use Rattle.route_table.proofs.FamilyBits.{AllOf, blocks_of, family_gives, gives_bits, order_entries, table_entries}
@@ -139,8 +138,16 @@ module _ (M C rs : List Route) (old : IsTable M) (changes : Changes rs) (told : 
     count =
         let m : length (missing M (four ++ six)) ≡ length (routes_in Ipv4 es4) + length (routes_in Ipv6 es6) = ap length missing_are ∙ length-append (routes_in Ipv4 es4) (routes_in Ipv6 es6) in
         let s : length (surplus M (four ++ six)) ≡ length gone4 + length gone6 = ap length surplus_are ∙ length-append gone4 gone6 in
-        omega (arith, length-between M (four ++ six), m, s, count_installs Ipv4 es4 made4, count_installs Ipv6 es6 made6,
-        count_gone Ipv4 es4 made4 (four ++ six) has.table here4, count_gone Ipv6 es6 made6 (four ++ six) has.table here6)
+        omega (
+          arith,
+          length-between M (four ++ six),
+          m,
+          s,
+          count_installs Ipv4 es4 made4,
+          count_installs Ipv6 es6 made6,
+          count_gone Ipv4 es4 made4 (four ++ six) has.table here4,
+          count_gone Ipv6 es6 made6 (four ++ six) has.table here6,
+        )
 
     updates : AreUpdates M rs (operations_of es4 es6)
     updates = record {
