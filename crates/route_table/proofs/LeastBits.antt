@@ -164,7 +164,7 @@ module _ (ps qs : List (List Bool × ℕ)) (ns ms : List (IpNet × Hop)) (v4 : A
       let A = family_routes Ipv4 ns v4.in_family in
       let B = family_routes Ipv6 ms v6.in_family in
       subst (λ N. IsLeast h N) (sym (map_append (λ (r : IpNet × Hop). route_of r.0 r.1 default_preference) ns ms)) (least_of_families h (routes_for ns) (routes_for ms)
-      (least_gives Ipv4 h ps pieces4 (routes_for ns) v4.table A v4.least) (family_gives Ipv6 h qs pieces6 (routes_for ms) v6.table B v6.least)
+      (least_gives Ipv4 h ps pieces4 (routes_for ns) v4.table A v4.least) (least_gives Ipv6 h qs pieces6 (routes_for ms) v6.table B v6.least)
       (family_fewest Ipv4 h ps pieces4 (routes_for ns) v4.table A v4.least) (family_fewest Ipv6 h qs pieces6 (routes_for ms) v6.table B v6.least))
 
   truncated_of_both : All (λ r. IsTruncated (family r.0) (parts r.0)) (ns ++ ms)

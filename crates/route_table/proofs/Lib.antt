@@ -32,7 +32,7 @@ pub mod FamilyBits
 pub mod PartBits
 pub mod NewRoutes
 pub mod Overlaid
-pub mod Updates
+pub mod FewestUpdates
 pub mod LeastBits
 pub mod Looks
 pub mod Paints
