@@ -1,5 +1,5 @@
 -- Operations one after the other, each of which turns addresses that the others leave.
-use Rattle.std.proofs.Common.{◌≡◌, ℕ, inl, inr, false, cond, List, [], ◌∷◌, ◌++◌, Option, refl, sym, ap, ◌∙◌, subst, ⊎_elim}
+use Rattle.std.proofs.Common.{◌≡◌, ℕ, inl, inr, false, List, [], ◌∷◌, ◌++◌, Option, refl, sym, ap, ◌∙◌, subst, ⊎_elim}
 use Rattle.std.proofs.lemmas.Bool.{false_from_ne_true, cases_Bool, cond-false}
 use Rattle.std.proofs.lemmas.List.Elements.{All-map}
 use Rattle.ipnet_addr.specs.Addresses.{Address, IsAddress}

@@ -1,12 +1,11 @@
 -- Nearest tables and the fewest operations.
-use Rattle.std.proofs.Common.{◌≡◌, ◌≤◌, inl, inr, ℕ, List, [], ◌∷◌, ◌++◌, Option, length, map, refl, sym, ap, ◌∙◌, subst, arith, length-append, append-nil}
+use Rattle.std.proofs.Common.{◌≡◌, inl, inr, List, [], ◌∷◌, length, refl, sym, ap, ◌∙◌, subst, arith, append-nil}
 use mathlib.Core.List.{reverse}
 use Rattle.std.proofs.lemmas.List.{length-map, length-reverse}
-use Rattle.ipnet_addr.specs.Addresses.{Address}
-use Rattle.route_laws.specs.Batches.{AreChanges, batch, painted, painted_all}
+use Rattle.route_laws.specs.Batches.{batch, painted, painted_all}
 use Rattle.route_laws.specs.LeastTables.{HasHops, IsLeast}
-use Rattle.route_laws.specs.Nearest.{IsFewestTo, IsNearest, FewestIsNearest, LeastIsNearest, NearestIsFewest, NearestIsHitless, NearestIsNoMore}
-use Rattle.route_laws.specs.Operations.{Install, Operation, after_all, between, installs, missing}
+use Rattle.route_laws.specs.Nearest.{IsNearest, FewestIsNearest, LeastIsNearest, NearestIsFewest, NearestIsHitless, NearestIsNoMore}
+use Rattle.route_laws.specs.Operations.{Install, after_all, between, installs, missing}
 use Rattle.route_laws.specs.Tables.{Route, IsTable, hop_at}
 use Rattle.route_laws.proofs.Batches.{Changes, batch_reaches, between_hitless, between_reaches, changes_from}
 use Rattle.route_laws.proofs.FewestOperations.{fewest}
@@ -27,7 +26,7 @@ fewest_is_nearest M h os m f = record {
   nearest = λ L g. omega (arith, fewest M (after_all M os) m f.hops.table os refl, f.fewest (between M L) (subst (HasHops h) (sym (between_reaches M L m g.table)) g));
 }
 
-painted_all_is_table : (M rs : List Route) → IsTable M → Changes rs → IsTable (painted_all M rs)
+pub painted_all_is_table : (M rs : List Route) → IsTable M → Changes rs → IsTable (painted_all M rs)
 painted_all_is_table M [] m c = m
 painted_all_is_table M (r ∷ rs) m c =
     let k = c r (inl refl) in

@@ -7,9 +7,10 @@ use Rattle.route_choices.specs.declared.hop.Hop.{Hop}
 use Rattle.route_choices.specs.Hops.{IsHop, number_of}
 use Rattle.route_laws.specs.Batches.{AreApart, AreChanges, batch, changes_to, hop_over, painted, painted_all, strictly_inside}
 use Rattle.route_laws.specs.LeastTables.{IsLeast}
+use Rattle.route_laws.specs.Nearest.{IsFewestTo}
 use Rattle.route_laws.specs.Operations.{IsFewestOperations, IsHitless, after_all, between}
 use Rattle.route_laws.specs.Overwritten.{without_inside}
-use Rattle.route_laws.specs.Runs.{Event, Sync, IsApart, IsMade, MayAllCome, after_events, given, gives, haves, start, told}
+use Rattle.route_laws.specs.Runs.{Event, Sync, Told, IsMade, MayAllCome, after_events, given, gives, haves, start, told}
 use Rattle.route_laws.specs.Tables.{Route, Changed, IsTable, hop_at, match_of}
 
 -- the operations between two tables turn the first into the second
@@ -71,7 +72,7 @@ GivesWhatItSays = (es : List Event) (e : Event) → MayAllCome start (es ++ e �
 
 -- each address changes its hop at most once in the operations of one event
 abbrev pub GivesHitless : Type 0
-GivesHitless = (es : List Event) (e : Event) → MayAllCome start (es ++ e ∷ []) → IsApart e →
+GivesHitless = (es : List Event) (e : Event) → MayAllCome start (es ++ e ∷ []) →
     IsHitless (after_events start es).installed (gives (after_events start es) e)
 
 -- once the installed table is kept in sync, each address has the reported hop in it
@@ -79,17 +80,28 @@ abbrev pub KeepsHops : Type 0
 KeepsHops = (es : List Event) → MayAllCome start es → (after_events start es).kept ≡ true →
     (x : Address) → IsAddress x → hop_at (after_events start es).installed x ≡ told None es x
 
+-- Once the installed table is kept in sync, the operations of changes are the fewest of all that give each address the reported hop,
+-- these changes included.
+abbrev pub ToldIsFewest : Type 0
+ToldIsFewest = (es : List Event) (rs N : List Route) → MayAllCome start (es ++ Told rs N ∷ []) → (after_events start es).kept ≡ true →
+    IsFewestTo (after_events start es).installed (told None (es ++ Told rs N ∷ [])) (gives (after_events start es) (Told rs N))
+
 -- the operations of all events turn the table installed before them into the table installed after them
 abbrev pub GivenReaches : Type 0
 GivenReaches = (es : List Event) → MayAllCome start es → after_all (haves es) (given start es) ≡ (after_events start es).installed
 
--- after a `Sync` the installed table is a least table of the reported hops, including its own changes
+-- after a `Sync` the installed table is a least table of the reported hops
 abbrev pub SyncIsLeast : Type 0
-SyncIsLeast = (es : List Event) (rs N : List Route) → MayAllCome start (es ++ Sync rs N ∷ []) →
-    IsLeast (told None (es ++ Sync rs N ∷ [])) (after_events start (es ++ Sync rs N ∷ [])).installed
+SyncIsLeast = (es : List Event) (N : List Route) → MayAllCome start (es ++ Sync N ∷ []) →
+    IsLeast (told None es) (after_events start (es ++ Sync N ∷ [])).installed
 
--- a later `Sync` without changes changes no hop at any moment
+-- a later `Sync` has no operations if the installed table is a least one already
+abbrev pub SyncStays : Type 0
+SyncStays = (es : List Event) (N : List Route) → MayAllCome start (es ++ Sync N ∷ []) → (after_events start es).kept ≡ true →
+    IsLeast (told None es) (after_events start es).installed → gives (after_events start es) (Sync N) ≡ []
+
+-- a later `Sync` changes no hop at any moment
 abbrev pub SyncIsUnseen : Type 0
-SyncIsUnseen = (es : List Event) (N : List Route) → MayAllCome start (es ++ Sync [] N ∷ []) → (after_events start es).kept ≡ true →
+SyncIsUnseen = (es : List Event) (N : List Route) → MayAllCome start (es ++ Sync N ∷ []) → (after_events start es).kept ≡ true →
     (x : Address) → IsAddress x → (i : ℕ) →
-    hop_at (after_all (after_events start es).installed (take i (gives (after_events start es) (Sync [] N)))) x ≡ hop_at (after_events start es).installed x
+    hop_at (after_all (after_events start es).installed (take i (gives (after_events start es) (Sync N)))) x ≡ hop_at (after_events start es).installed x

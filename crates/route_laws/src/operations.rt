@@ -1,6 +1,6 @@
 //! Theorems about the operations that turn one table into another.
 ghost use Rattle.route_laws.specs.Nearest.{FewestIsNearest, LeastIsNearest, NearestIsFewest, NearestIsHitless, NearestIsNoMore};
-ghost use Rattle.route_laws.specs.OperationLaws.{BatchIsHitless, BatchReaches, BetweenIsFewest, BetweenIsHitless, BetweenReaches, FewOperations, GivenReaches, GivesHitless, GivesWhatItSays, HandedByNone, HandedByParent, HopsOfBatch, HopsOfPainted, KeepsHops, PaintedIsTable, SyncIsLeast, SyncIsUnseen, ToldAreChanges};
+ghost use Rattle.route_laws.specs.OperationLaws.{BatchIsHitless, BatchReaches, BetweenIsFewest, BetweenIsHitless, BetweenReaches, FewOperations, GivenReaches, GivesHitless, GivesWhatItSays, HandedByNone, HandedByParent, HopsOfBatch, HopsOfPainted, KeepsHops, PaintedIsTable, SyncIsLeast, SyncIsUnseen, SyncStays, ToldAreChanges, ToldIsFewest};
 
 /// The operations between two tables turn the first into the second. On the way each address changes its hop at most once, from its
 /// hop in the first table to that in the second. No shorter sequence of operations makes the second table.
@@ -36,18 +36,21 @@ pub fn nearest()
     ensures least { LeastIsNearest }
 {}
 
-/// A table that is kept installed, event by event. An event is a route that is installed already, a group of changes, or a group of
-/// changes with a least table to install for the hops after them. They may come in any order, but no route counts as installed already
-/// after the first least table.
+/// A table that is kept installed, event by event. An event is a route that is installed already, a group of changes, or a least table
+/// to install. They may come in any order, but no route counts as installed already after the first least table. From then on, a table
+/// that has the hops after the changes and is nearest to the installed one is installed at each group of changes.
 ///
 /// The operations of an event turn the table installed before it into the table installed after it, and so do those of all events.
 /// Each address changes its hop at most once during an event. From the first least table on, each address has the hop that was
-/// last reported. A later least table without changes changes no address at any moment.
+/// last reported, and the operations of a group of changes are the fewest of all with this effect. A later least table changes no
+/// address at any moment, and has no operations if the installed table is a least one already.
 pub fn runs()
     ensures operations { GivesWhatItSays }
     ensures reaches { GivenReaches }
     ensures hitless { GivesHitless }
     ensures hops { KeepsHops }
+    ensures fewest { ToldIsFewest }
     ensures least { SyncIsLeast }
+    ensures stays { SyncStays }
     ensures unseen { SyncIsUnseen }
 {}

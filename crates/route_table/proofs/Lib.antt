@@ -5,6 +5,7 @@ pub mod Room
 pub mod Seams
 pub mod Searches
 pub mod Stores
+pub mod Asked
 pub mod Found
 pub mod Calls
 pub mod InPlace
@@ -38,3 +39,4 @@ pub mod Looks
 pub mod Paints
 pub mod Repaints
 pub mod UpdateRows
+pub mod Updating

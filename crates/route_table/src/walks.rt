@@ -4,16 +4,16 @@ ghost use Rattle.ipnet_addr.specs.Addresses.{Ipv4, Ipv6};
 ghost use Rattle.ipnet.specs.IpNets.{block};
 ghost use Rattle.route_laws.specs.Onwards.{count_of, routes_after, routes_from};
 ghost use Rattle.route_laws.specs.Networks.{routes_of};
-ghost use Rattle.route_laws.specs.Tables.{covering};
+ghost use Rattle.route_laws.specs.Tables.{IsTable, covering};
 ghost use Rattle.route_table.specs.Given.{AreFamilies, AreRoutes};
 
 use crate::hop_table::HopTable;
 use crate::routes::Routes;
 use crate::side_routes::SideRoutes;
-use crate::table::{RouteTable, cleared};
+use crate::table::{RouteTable, Table, cleared};
 use ipnet::{IpNet, Ipv4Net, Ipv6Net};
 
-impl RouteTable {
+impl<const CAPACITY: usize> Table<CAPACITY> {
     /// Returns the number of stored networks of IPv4 and of IPv6. Does not allocate.
     ///
     /// # Examples
@@ -23,11 +23,14 @@ impl RouteTable {
     /// assert_eq!(rt; table.count(), (2, 0));
     /// ```
     pub fn count(&self) -> (usize, usize)
-        ensures { result ≡ (count_of Ipv4 (routes_of self.now), count_of Ipv6 (routes_of self.now)) }
+        ensures counts { result ≡ (count_of Ipv4 (routes_of self.now), count_of Ipv6 (routes_of self.now)) }
+        ensures table { IsTable (routes_of self.now) }
     {
         (self.v4.count(), self.v6.count())
     }
+}
 
+impl RouteTable {
     /// Returns the routes of the networks that contain this one, itself included, shortest first. Does not allocate.
     ///
     /// # Examples
