@@ -11,7 +11,6 @@ use Rattle.ipnet_blocks.specs.Blocks.{Block, IsBlock, bit_string}
 use Rattle.ipnet_blocks.specs.Networks.{IsTruncated, Network, block_of}
 use Rattle.ipnet.specs.IpNets.{block, family, net_in, network_at, parts}
 use Rattle.ipnet.specs.declared.ip_net.IpNet.{IpNet}
-use Rattle.least_table.specs.InnerOrders.{IsInOrder}
 use Rattle.least_table.specs.Tables.{IsTable}
 use Rattle.nearest_table.specs.Changed.{AreInside, MakeNearest}
 use Rattle.nearest_table.specs.Edits.{blocks, installed_in, removed_in}
@@ -24,23 +23,17 @@ use Rattle.route_laws.specs.Batches.{AreChanges}
 use Rattle.route_laws.specs.LeastTables.{routes_for}
 use Rattle.route_laws.specs.Operations.{Operation, Install, Remove, after, after_all, installs}
 use Rattle.route_laws.specs.Overwritten.{overwritten}
-use Rattle.route_laws.specs.Networks.{Stored, routes_of}
 use Rattle.route_laws.specs.Tables.{Route, route_of}
-use Rattle.route_laws.specs.Tables as Routes
-use Rattle.route_laws.proofs.Insides.{rising}
-use Rattle.route_laws.proofs.Networks.{routes_are_table}
 use Rattle.route_table.specs.InnerEntries.{GivesNet}
 use Rattle.route_table.specs.InnerLeast.{entry_of, entries_of}
-use Rattle.route_table.specs.InnerSides.{IsSide, block_at}
+use Rattle.route_table.specs.InnerSides.{block_at}
 use Rattle.route_table.specs.InnerUpdates.{AddsInstalls, AddsRemoves, AreTruncated, AreWithin, blocks_in, installed_route, operations_of, overwritten_all, routes_in}
 use Rattle.route_table.specs.Operations.{network_of, operation_of}
 use Rattle.route_table.specs.declared.between.Operation as Given
 use Rattle.route_table.specs.declared.between.Operation.TheVariants as One
 use Rattle.route_laws.proofs.NetworksAt.{block_of-net_in, of_network_at}
 use Rattle.route_table.proofs.Asked.{longest_none}
-use Rattle.route_table.proofs.FamilyBits.{Blocks, blocks_of, order_entries, table_entries}
 use Rattle.route_table.proofs.Looks.{is_truncated}
-use Rattle.route_table.proofs.Sides.{routes_of_side}
 use Rattle.route_table.proofs.Strings.{network_of_string}
 use Rattle.trie_core.specs.Bits.{number_from}
 
@@ -92,8 +85,8 @@ begins_itself (false ∷ a) = begins_itself a
 
 -- a block that is no beginning of another has a bit
 pub some_bit : (a b : List Bool) → (begins a b ≡ true → ⊥) → 0 < length a
-some_bit [] b no = absurd (no refl)
-some_bit (x ∷ a) b no = omega arith
+some_bit [] b not_it = absurd (not_it refl)
+some_bit (x ∷ a) b not_it = omega arith
 
 -- all of these routes have strings that the block begins
 abbrev pub AreBegun : List Bool → List Route → Type 0
@@ -195,6 +188,11 @@ module _ (f : Family) where
   pub no_removes : (os : List Given.Operation) → AddsRemoves f [] os os
   no_removes os = record { operations = sym (append-nil (map operation_of os)); truncated = λ t. t }
 
+  pub removes_next : (xs : List Edit) (i : ℕ) (e : Edit) → i < length xs → e ≡ slice_index_or xs i e → (old mid new : List Given.Operation) → AddsRemoves f (take i xs) old mid → AddsRemoves f (e ∷ []) mid new
+      → AddsRemoves f (take (i + 1) xs) old new
+  removes_next xs i e l is old mid new a b =
+      subst (λ es. AddsRemoves f es old new) (sym (take_more xs i e l ∙ ap (λ d. take i xs ++ d ∷ []) (sym is))) (removes_join (take i xs) (e ∷ []) old mid new a b)
+
   -- one operation more
   truncated_more : (os : List Given.Operation) (o : Given.Operation) → IsTruncated (family (network_of o)) (parts (network_of o)) → AreTruncated os → AreTruncated (os ++ o ∷ [])
   truncated_more os o t all = all_more (λ (p : Given.Operation). IsTruncated (family (network_of p)) (parts (network_of p))) os o all t
@@ -219,6 +217,13 @@ module _ (f : Family) where
     truncated = truncated_more os (One.Remove net) (bare_bits b net n);
   }
 
+pub none_truncated : AreTruncated []
+none_truncated = All-from_In (λ (o : Given.Operation). IsTruncated (family (network_of o)) (parts (network_of o))) [] (λ o i. absurd i)
+
+pub within_front : (w : ℕ) (es front : List Edit) (e : Edit) → es ≡ front ++ e ∷ [] → AreWithin w es → AreWithin w front
+within_front w es front e is all = All-from_In (λ (d : Edit). length d.0 ≤ w) front
+    (λ d i. In-from_All (λ (d : Edit). length d.0 ≤ w) es all d (subst (λ l. In d l) (sym is) (In-left d front (e ∷ []) i)))
+
 -- all operations
 pub operations_are : (es4 es6 : List Edit) (o1 o2 o3 o4 : List Given.Operation) → AddsInstalls Ipv6 es6 [] o1 → AddsInstalls Ipv4 es4 o1 o2 → AddsRemoves Ipv4 es4 o2 o3 → AddsRemoves Ipv6 es6 o3 o4
     → map operation_of o4 ≡ operations_of es4 es6
@@ -240,20 +245,6 @@ network_of_bits f of_bits parts_in parts_are s h k e = ap (λ j. net_in f (parts
 pub width_is_short : (f : Family) → width f ≤ 128
 width_is_short Ipv4 = omega arith
 width_is_short Ipv6 = omega arith
-
--- the routes of a side as bit strings
-module _ (f : Family) (T : List Stored) (side : IsSide f T) where
-  is_table : Routes.IsTable (routes_of T)
-  is_table = routes_are_table T side.table
-
-  side_blocks : Blocks f (routes_of T)
-  side_blocks = blocks_of f (routes_of T) is_table (In-from_All (λ (r : Route). r.block.family ≡ f) (routes_of T) (routes_of_side f T (routes_of T) side refl))
-
-  pub side_table : IsTable (width f) (entries_of (routes_of T))
-  side_table = table_entries f (routes_of T) side_blocks (rising (routes_of T) is_table)
-
-  pub side_order : IsInOrder (entries_of (routes_of T))
-  side_order = order_entries f (routes_of T) side_blocks (rising (routes_of T) is_table)
 
 -- ---- the blocks of edits
 

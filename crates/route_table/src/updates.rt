@@ -10,7 +10,7 @@ ghost use Rattle.route_choices.specs.Hops.{IsHop};
 ghost use Rattle.route_laws.specs.Batches.{AreChanges};
 ghost use Rattle.route_laws.specs.LeastTables.{routes_for};
 ghost use Rattle.route_laws.specs.Nearest.{AreUpdates};
-ghost use Rattle.route_laws.specs.Networks.{IsStoredTable, routes_of};
+ghost use Rattle.route_laws.specs.Networks.{routes_of};
 ghost use Rattle.route_laws.specs.Operations.{after, after_all};
 ghost use Rattle.route_laws.specs.Tables.{IsTable};
 ghost use Rattle.route_table.specs.InnerLeast.{entries_of};
@@ -140,7 +140,7 @@ fn push_remove<P: OfFamily>(
     requires { length path.now ≤ width P.family }
     ensures { OnOk result (AddsRemoves P.family ((path.now, edit) ∷ []) operations.old.items operations.new.items) }
 {
-    if edit.is_none() {
+    if let None = edit {
         let net = network::<P>(path);
         operations.push(Operation::Remove { net })?;
     }
@@ -203,10 +203,9 @@ impl HopTable {
         ensures memory { IfErr result (λ e. e ≡ Memory) }
         ensures table { IsTable (routes_of self.now) }
     {
-        let alloc = self.alloc();
-        let changes = table_of(alloc, changes)?;
+        let changes = table_of(self.alloc, changes)?;
         let (v4, v6) = self.edits(&changes)?;
-        Ok(operations(alloc, v4.as_slice(), v6.as_slice())?)
+        Ok(operations(self.alloc, v4.as_slice(), v6.as_slice())?)
     }
 
     /// The fewest edits of each family that give the addresses their hops after the changes.
@@ -233,7 +232,6 @@ impl HopTable {
     /// ```
     pub fn carry_out(&mut self, operations: &[Operation]) -> Result<(), Refused>
         ensures routes { OnOk result (routes_of self.new ≡ after_all (routes_of self.old) (map operation_of operations.now)) }
-        ensures tables { IsStoredTable self.old × IsStoredTable self.new }
         ensures memory { IfErr result (λ e. e ≡ Memory) }
         ensures first { OnErr result ((n : ℕ) × (n < length operations.now) × (routes_of self.new ≡ after_all (routes_of self.old) (map operation_of (take n operations.now)))) }
     {
@@ -246,7 +244,6 @@ impl HopTable {
     /// Carries out one operation.
     fn carry_one(&mut self, operation: Operation) -> Result<(), Refused>
         ensures routes { OnOk result (routes_of self.new ≡ after (routes_of self.old) (operation_of operation)) }
-        ensures tables { IsStoredTable self.old × IsStoredTable self.new }
         ensures memory { IfErr result (λ e. e ≡ Memory) }
         ensures unchanged { OnErr result (self.new ≡ self.old) }
     {

@@ -11,7 +11,7 @@ use Rattle.route_table.proofs.Updating.{changes_next, no_changes, over_next}
 use Rattle.route_table.proofs.updates.table_of.Goals as goal
 
 pub loop-net-init : goal.loop-net-init
-loop-net-init c = (ap routes_of c.in_ok-new.ensures.networks, no_changes)
+loop-net-init c = (ap routes_of c.in_ok-table.ensures.networks, no_changes)
 
 pub loop-net-preserved : goal.loop-net-preserved
 loop-net-preserved c =
