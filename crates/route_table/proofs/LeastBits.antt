@@ -1,43 +1,35 @@
 -- Tables of one family as tables over bit strings.
-use Rattle.std.proofs.Common.{◌≡◌, ℕ, suc, ◌-◌, ◌*◌, ◌^◌, ◌<◌, ◌≤◌, ⊎_elim, Bool, true, IsTrue, false, cond, nat_lt, inl, inr, List, [], ◌∷◌, ◌++◌, length, All, AllPairs, IfOk, IfSome, Result, Ok, Err, Option, Some, None, option_map, refl, sym, ap, ap₂, ◌∙◌, subst, arith}
-use Rattle.std.proofs.Math.Nat.{mod-eq_of_lt}
+use Rattle.std.proofs.Common.{◌≡◌, ℕ, suc, ◌^◌, ◌<◌, ◌≤◌, ⊎_elim, Bool, IsTrue, inl, inr, List, [], ◌∷◌, ◌++◌, length, All, AllPairs, IfOk, IfSome, Result, Ok, Err, Option, Some, None, refl, sym, ap, ap₂, ◌∙◌, subst, arith}
 use Rattle.std.specs.declared.cmp.Ordering.TheVariants.{Less}
 use Rattle.ipnet.proofs.IpNetworks.{net_family}
-use Rattle.ipnet_addr.specs.Addresses.{Family, Ipv4, Ipv6, Address, IsAddress, width}
+use Rattle.ipnet_addr.specs.Addresses.{Family, Ipv4, Ipv6, Address, width}
 use Rattle.ipnet_addr.proofs.Members.{In, In-cases}
 use Rattle.ipnet_addr.proofs.Ascending.{In-from_All, All-from_In, Rising, Rising-from_pairs}
-use Rattle.ipnet_blocks.specs.BitStrings.{begins, bits_cmp}
-use Rattle.ipnet_blocks.specs.Blocks.{Block, IsBlock, IsBefore, IsInside, digits, bit_string, family_block, first_of, host, is_inside}
+use Rattle.ipnet_blocks.specs.BitStrings.{bits_cmp}
+use Rattle.ipnet_blocks.specs.Blocks.{Block, IsBlock, IsBefore, bit_string, family_block}
 use Rattle.ipnet_blocks.specs.Networks.{Network, IsTruncated, block_of, net_of}
-use Rattle.ipnet_blocks.proofs.BlockLaws.{has_first}
-use Rattle.ipnet_blocks.proofs.Maximals.{member_is_address}
 use Rattle.ipnet_blocks.proofs.NetworkBlocks.{block_round_trip}
 use Rattle.ipnet_blocks.proofs.Order.{order_of_strings}
-use Rattle.ipnet_blocks.proofs.Search.{whole_is_block, inside_whole}
-use Rattle.ipnet_blocks.proofs.Strings.{length-digits}
 use Rattle.ipnet.specs.IpNets.{block, family, parts, net_in, network_at}
 use Rattle.ipnet.specs.declared.ip_net.IpNet.{IpNet}
 use Rattle.least_table.specs.Pieces.{hop_at, strings}
 use Rattle.least_table.specs.Tables as bits
 use Rattle.trie_core.specs.Bits.{number_from}
-use Rattle.trie_core.proofs.Numbers.{number_bound, number-digits, one_power}
 use Rattle.route_choices.specs.Choices.{default_preference}
 use Rattle.route_choices.specs.Hops.{IsHop, hop_from}
 use Rattle.route_choices.specs.declared.hop.Hop.{Hop}
 use Rattle.route_choices.proofs.Kept.{In-map, map_In, map_append}
-use Rattle.route_laws.specs.Fewest.{handed, hop_under, GivesInside, IsFewest}
-use Rattle.route_table.specs.InnerLeast.{ArePieces, AreLeast, AreLeastOf, address_at, entry_of, entries_of, items_of}
+use Rattle.route_laws.specs.Fewest.{GivesInside, IsFewest}
+use Rattle.route_table.specs.InnerLeast.{ArePieces, AreLeast, AreLeastOf, entries_of, items_of}
 use Rattle.route_table.specs.InnerSides.{block_at}
 use Rattle.route_laws.specs.LeastTables.{IsLeast, routes_for}
-use Rattle.route_laws.specs.Tables.{Route, IsTable, covering, longer, longest, match_of, route_of}
-use Rattle.route_laws.proofs.Families.{in_family, least_of_families}
+use Rattle.route_laws.specs.Tables.{Route, IsTable, route_of}
+use Rattle.route_laws.proofs.Families.{least_of_families}
 use Rattle.route_laws.proofs.Fewest.{number_from_hop}
 use Rattle.route_table.proofs.FamilyBits.{AllOf, all_inside, family_gives, gives_bits}
 use Rattle.route_laws.proofs.NetworksAt.{of_network_at}
-use Rattle.route_laws.proofs.Insides.{Sooner, sound, rising, table_of, has_from_test, test_from_has}
-use Rattle.route_laws.proofs.Matches.{bools_same}
-use Rattle.route_laws.proofs.Ordered.{before_apart}
-use Rattle.route_table.proofs.Strings.{same_string, string_of_block, block_at_is_block}
+use Rattle.route_laws.proofs.Insides.{Sooner, table_of}
+use Rattle.route_table.proofs.Strings.{string_of_block, block_at_is_block}
 use Rattle.route_table.proofs.Walked.{network_of_key}
 
 -- ---- from blocks to bit strings
@@ -172,7 +164,7 @@ module _ (ps qs : List (List Bool × ℕ)) (ns ms : List (IpNet × Hop)) (v4 : A
       let A = family_routes Ipv4 ns v4.in_family in
       let B = family_routes Ipv6 ms v6.in_family in
       subst (λ N. IsLeast h N) (sym (map_append (λ (r : IpNet × Hop). route_of r.0 r.1 default_preference) ns ms)) (least_of_families h (routes_for ns) (routes_for ms)
-      (least_gives Ipv4 h ps pieces4 (routes_for ns) v4.table A v4.least) (family_gives Ipv6 h qs pieces6 (routes_for ms) v6.table B v6.least)
+      (least_gives Ipv4 h ps pieces4 (routes_for ns) v4.table A v4.least) (least_gives Ipv6 h qs pieces6 (routes_for ms) v6.table B v6.least)
       (family_fewest Ipv4 h ps pieces4 (routes_for ns) v4.table A v4.least) (family_fewest Ipv6 h qs pieces6 (routes_for ms) v6.table B v6.least))
 
   truncated_of_both : All (λ r. IsTruncated (family r.0) (parts r.0)) (ns ++ ms)
