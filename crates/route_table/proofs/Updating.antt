@@ -258,5 +258,5 @@ pub edits_within : (w : ℕ) (cs t : List (List Bool × Option ℕ)) (es : List 
 edits_within w cs t es ok m = All-from_In (λ (e : Edit). length e.0 ≤ w) es (edit_within w es
     (λ r i. within_table w m.table (m.nearest.gives).table r (In-from_filter (λ r. not (has t r)) m.table r (subst (λ l. In r l) m.edits.installs i)).0)
     (λ b i. let s = from_blocks (surplus t m.table) b (subst (λ l. In b l) m.edits.removes i) in
-        let l = within_table w t ok s.0 (In-from_filter (λ r. not (stores m.table r.0)) t s.0 s.1).0 in
-        subst (λ c. length c ≤ w) (sym s.2) l))
+    let l = within_table w t ok s.0 (In-from_filter (λ r. not (stores m.table r.0)) t s.0 s.1).0 in
+    subst (λ c. length c ≤ w) (sym s.2) l))

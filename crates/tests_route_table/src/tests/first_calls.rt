@@ -165,7 +165,10 @@ fn updated(rt: &impl Abort, table: &mut HopTable) {
     let half = net(rt, "10.0.0.0/9");
     let changes = [(half, Hop::Number(1))];
     let updates = table.updates(&changes).expect(rt, "memory");
-    assert_eq!(rt; updates.as_slice(), [Operation::Remove { net: half }].as_slice());
+    assert_eq!(rt;
+        updates.as_slice(),
+        [Operation::Remove { net: half }].as_slice()
+    );
     assert_eq!(rt; table.carry_out(updates.as_slice()), Ok(()));
     assert!(rt; matches!(table.get(&half), Some((_, Hop::Number(1), 100))));
 }

@@ -91,12 +91,7 @@ fn repaint(rt: &impl Abort, table: &HopTable, rows: &[(&str, &str)]) {
 }
 
 /// Checks the number of the operations that carry out the changes of the text, and the flat list after them.
-fn update(
-    rt: &impl Abort,
-    alloc: Global,
-    table: &mut HopTable,
-    row: &(&str, usize, &str),
-) {
+fn update(rt: &impl Abort, alloc: Global, table: &mut HopTable, row: &(&str, usize, &str)) {
     let (text, count, pieces) = *row;
     let mut changes = Vec::new(alloc);
     for words in text.split_terminator(',') {

@@ -17,8 +17,7 @@ pub loop-net-preserved : goal.loop-net-preserved
 loop-net-preserved c =
     let xs = c.args.changes.now in
     let i = c.loop-net.net-index in
-    let p = c.loop-net-item.result in
-    (
+    let p = c.loop-net-item.result in (
       over_next xs i p (omega arith) c.loop-net-item.is _ _ c.loop-net.invariant.0
           (ap routes_of c.in_ok-overwrite.ensures.networks ∙ routes_overwritten c.loop-net.table (block p.0) (record { hop = p.1; pref = default_preference })),
       changes_next xs i p (omega arith) c.loop-net-item.is c.loop-net.invariant.1 c.in_ok-overwrite.ensures.change.0 c.in_ok-overwrite.ensures.change.1,
