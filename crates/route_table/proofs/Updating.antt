@@ -8,13 +8,14 @@ use Rattle.ipnet_addr.proofs.Members.{In, In-cases, In-left}
 use Rattle.ipnet_addr.proofs.Ascending.{All-from_In, In-from_All}
 use Rattle.ipnet_blocks.specs.BitStrings.{begins}
 use Rattle.ipnet_blocks.specs.Blocks.{Block, IsBlock, bit_string}
-use Rattle.ipnet_blocks.specs.Networks.{IsTruncated, Network, block_of}
+use Rattle.ipnet_blocks.specs.Networks.{IsTruncated, Network}
 use Rattle.ipnet.specs.IpNets.{block, family, net_in, network_at, parts}
 use Rattle.ipnet.specs.declared.ip_net.IpNet.{IpNet}
 use Rattle.least_table.specs.Tables.{IsTable}
 use Rattle.nearest_table.specs.Changed.{AreInside, MakeNearest}
 use Rattle.nearest_table.specs.Edits.{blocks, installed_in, removed_in}
 use Rattle.nearest_table.specs.Nearest.{has, stores, surplus}
+use Rattle.prefix_trie.proofs.Covered.{begins_through}
 use Rattle.route_choices.specs.Choices.{default_preference}
 use Rattle.route_choices.specs.Hops.{IsHop, hop_from}
 use Rattle.route_choices.specs.declared.hop.Hop.{Hop}
@@ -24,14 +25,13 @@ use Rattle.route_laws.specs.LeastTables.{routes_for}
 use Rattle.route_laws.specs.Operations.{Operation, Install, Remove, after, after_all, installs}
 use Rattle.route_laws.specs.Overwritten.{overwritten}
 use Rattle.route_laws.specs.Tables.{Route, route_of}
-use Rattle.route_table.specs.InnerEntries.{GivesNet}
 use Rattle.route_table.specs.InnerLeast.{entry_of, entries_of}
 use Rattle.route_table.specs.InnerSides.{block_at}
-use Rattle.route_table.specs.InnerUpdates.{AddsInstalls, AddsRemoves, AreTruncated, AreWithin, blocks_in, installed_route, operations_of, overwritten_all, routes_in}
+use Rattle.route_table.specs.InnerUpdates.{AddsInstalls, AddsRemoves, AreTruncated, AreWithin, GivesPath, blocks_in, installed_route, operations_of, overwritten_all, routes_in}
 use Rattle.route_table.specs.Operations.{network_of, operation_of}
 use Rattle.route_table.specs.declared.between.Operation as Given
 use Rattle.route_table.specs.declared.between.Operation.TheVariants as One
-use Rattle.route_laws.proofs.NetworksAt.{block_of-net_in, of_network_at}
+use Rattle.route_laws.proofs.NetworksAt.{of_network_at}
 use Rattle.route_table.proofs.Asked.{longest_none}
 use Rattle.route_table.proofs.Looks.{is_truncated}
 use Rattle.route_table.proofs.Strings.{network_of_string}
@@ -67,17 +67,6 @@ changes_next xs i p l is c b h = subst AreChanges (sym (routes_more xs i p l is)
 
 -- ---- the block around
 
-pub begins_through : (a b c : List Bool) → begins a b ≡ true → begins b c ≡ true → begins a c ≡ true
-begins_through [] b c e f = refl
-begins_through (x ∷ a) [] c e f = cc
-begins_through (x ∷ a) (y ∷ b) [] e f = cc
-begins_through (true ∷ a) (true ∷ b) (true ∷ c) e f = begins_through a b c e f
-begins_through (false ∷ a) (false ∷ b) (false ∷ c) e f = begins_through a b c e f
-begins_through (true ∷ a) (false ∷ b) (z ∷ c) e f = cc
-begins_through (false ∷ a) (true ∷ b) (z ∷ c) e f = cc
-begins_through (true ∷ a) (true ∷ b) (false ∷ c) e f = cc
-begins_through (false ∷ a) (false ∷ b) (true ∷ c) e f = cc
-
 pub begins_itself : (a : List Bool) → begins a a ≡ true
 begins_itself [] = refl
 begins_itself (true ∷ a) = begins_itself a
@@ -103,22 +92,18 @@ begun_inside w b M all x l out = longest_none (entries_of M) x (λ q i e.
     cc)
 
 -- what is left of the routes of a side, when one more was looked at
-module _ (f : Family) {K : Type 0} (bits_in : K → List Bool) (parts_in : K → Network) (bits_are : (k : K) → bits_in k ≡ bit_string (block_of f (parts_in k))) where
-  begun_itself : (b : List Bool) (p : K × Hop × ℕ) (r : Route) (n : IpNet) → n ≡ net_in f (parts_in p.0) → r ≡ route_of n p.1 p.2 → begins b (bits_in p.0) ≡ true → begins b (bit_string r.block) ≡ true
-  begun_itself b p r n is e h = subst (λ s. begins b s ≡ true) (bits_are p.0 ∙ sym (ap bit_string (ap Route.block e ∙ ap block is ∙ block_of-net_in f (parts_in p.0)))) h
+pub begun_first : (f : Family) (M left : List Route) (s : List Bool) → GivesPath f M (Some s) left → (r : Route) → In r M → (begins s (bit_string r.block) ≡ true) ⊎ In r left
+begun_first f M left s g r i = ⊎_elim
+    (λ e. inl (subst (λ t. begins s t ≡ true) (sym (ap (λ (q : Route). bit_string q.block) e ∙ g.2)) (begins_itself s)))
+    (λ j. inr j)
+    (subst (λ l. In r l) g.1 i)
 
-  pub begun_first : (M left : List Route) (p : K × Hop × ℕ) → GivesNet f parts_in M (Some p) left → (r : Route) → In r M → (begins (bits_in p.0) (bit_string r.block) ≡ true) ⊎ In r left
-  begun_first M left p g r i = ⊎_elim
-      (λ e. inl (begun_itself (bits_in p.0) p r (net_in f (parts_in p.0)) refl e (begins_itself (bits_in p.0))))
-      (λ j. inr j)
-      (subst (λ l. In r l) g.0 i)
-
-  pub begun_next : (old new : List Bool) (M rest left : List Route) (p : K × Hop × ℕ) → GivesNet f parts_in rest (Some p) left → begins new old ≡ true → begins new (bits_in p.0) ≡ true
-      → ((r : Route) → In r M → (begins old (bit_string r.block) ≡ true) ⊎ In r rest) → (r : Route) → In r M → (begins new (bit_string r.block) ≡ true) ⊎ In r left
-  begun_next old new M rest left p g wide here so_far r i = ⊎_elim
-      (λ e. inl (begins_through new old (bit_string r.block) wide e))
-      (λ j. ⊎_elim (λ e. inl (begun_itself new p r (net_in f (parts_in p.0)) refl e here)) (λ k. inr k) (subst (λ l. In r l) g.0 j))
-      (so_far r i)
+pub begun_next : (f : Family) (old new : List Bool) (M rest left : List Route) (s : List Bool) → GivesPath f rest (Some s) left → begins new old ≡ true → begins new s ≡ true
+    → ((r : Route) → In r M → (begins old (bit_string r.block) ≡ true) ⊎ In r rest) → (r : Route) → In r M → (begins new (bit_string r.block) ≡ true) ⊎ In r left
+begun_next f old new M rest left s g wide here so_far r i = ⊎_elim
+    (λ e. inl (begins_through new old (bit_string r.block) wide e))
+    (λ j. ⊎_elim (λ e. inl (subst (λ t. begins new t ≡ true) (sym (ap (λ (q : Route). bit_string q.block) e ∙ g.2)) here)) (λ k. inr k) (subst (λ l. In r l) g.1 j))
+    (so_far r i)
 
 -- all were looked at
 pub begun_all : (b : List Bool) (M left : List Route) → left ≡ [] → ((r : Route) → In r M → (begins b (bit_string r.block) ≡ true) ⊎ In r left) → AreBegun b M
@@ -216,6 +201,10 @@ module _ (f : Family) where
     operations = map-append operation_of os (One.Remove net ∷ []) ∙ (λ i. map operation_of os ++ Remove (at_block b net n i) ∷ []);
     truncated = truncated_more os (One.Remove net) (bare_bits b net n);
   }
+
+pub none_left : {X : Type 0} (xs : List X) → length xs ≡ 0 → xs ≡ []
+none_left [] e = refl
+none_left (x ∷ xs) e = absurd (omega (arith, e))
 
 pub none_truncated : AreTruncated []
 none_truncated = All-from_In (λ (o : Given.Operation). IsTruncated (family (network_of o)) (parts (network_of o))) [] (λ o i. absurd i)

@@ -1,8 +1,8 @@
 -- Changes as a table, and the operations of edits of both families.
-use Rattle.std.specs.Prelude.{◌≡◌, ◌≤◌, ℕ, Bool, List, [], ◌∷◌, ◌++◌, All, Option, length, map}
+use Rattle.std.specs.Prelude.{◌≡◌, ◌≤◌, ℕ, Bool, List, [], ◌∷◌, ◌++◌, All, MatchOption, Option, length, map}
 use mathlib.Core.List.{reverse}
 use Rattle.ipnet_addr.specs.Addresses.{Family, Ipv4, Ipv6, width}
-use Rattle.ipnet_blocks.specs.Blocks.{Block}
+use Rattle.ipnet_blocks.specs.Blocks.{Block, bit_string}
 use Rattle.ipnet_blocks.specs.Networks.{IsTruncated}
 use Rattle.ipnet.specs.IpNets.{family, parts}
 use Rattle.nearest_table.specs.Changed.{MakeNearest}
@@ -17,6 +17,10 @@ use Rattle.route_table.specs.InnerLeast.{entries_of}
 use Rattle.route_table.specs.InnerSides.{block_at}
 use Rattle.route_table.specs.Operations.{network_of, operation_of}
 use Rattle.route_table.specs.declared.between.Operation as Given
+
+-- the bits of the first route's block were returned, or no route was left
+abbrev pub GivesPath : Family → List Route → Option (List Bool) → List Route → Type 0
+GivesPath f rs item left = MatchOption item ((rs ≡ []) × (left ≡ [])) (λ s. (r : Route) × (rs ≡ r ∷ left) × (bit_string r.block ≡ s) × (length s ≤ width f))
 
 -- the blocks of edits have at most w bits
 abbrev pub AreWithin : ℕ → List (List Bool × Option (Option ℕ)) → Type 0

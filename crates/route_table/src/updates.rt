@@ -15,7 +15,7 @@ ghost use Rattle.route_laws.specs.Operations.{after, after_all};
 ghost use Rattle.route_laws.specs.Tables.{IsTable};
 ghost use Rattle.route_table.specs.InnerLeast.{entries_of};
 ghost use Rattle.route_table.specs.InnerSides.{IsSide, block_at};
-ghost use Rattle.route_table.specs.InnerUpdates.{AddsInstalls, AddsRemoves, AreWithin, MakeBoth, operations_of, overwritten_all, routes_in};
+ghost use Rattle.route_table.specs.InnerUpdates.{AddsInstalls, AddsRemoves, AreWithin, GivesPath, MakeBoth, operations_of, overwritten_all, routes_in};
 ghost use Rattle.route_table.specs.Operations.{network_of, operation_of};
 
 use crate::between::Operation;
@@ -23,6 +23,7 @@ use crate::family::OfFamily;
 use crate::hop_table::HopTable;
 use crate::least::hop_of;
 use crate::side::Side;
+use crate::side_routes::SideRoutes;
 use crate::table::cleared;
 use ipnet::{IpNet, Ipv4Net, Ipv6Net};
 use nearest_table::nearest;
@@ -47,16 +48,28 @@ fn table_of(alloc: Global, changes: &[(IpNet, Hop)]) -> Result<HopTable, Refused
     Ok(table)
 }
 
-/// The block, or the smallest larger one that contains the network too.
-fn widened<P: OfFamily>(block: P, net: &P) -> P
-    ensures block { IsTrue (begins (P.bits result) (P.bits block)) }
-    ensures network { IsTrue (begins (P.bits result) (P.bits net.now)) }
+/// The path of the next network.
+fn next_path<P: OfFamily>(routes: &mut SideRoutes<'_, P>) -> Option<Path>
+    ensures { GivesPath P.family routes.old result routes.new }
 {
-    let mut wide = block;
-    while !wide.contains(net) {
+    let (net, _, _) = routes.next_net()?;
+    Some(path_of(&net))
+}
+
+/// The block, or the smallest larger one that contains the other block too.
+fn widened<P: OfFamily>(block: &Path, other: &Path) -> Path
+    requires block { length block.now ≤ width P.family }
+    requires other { length other.now ≤ width P.family }
+    ensures block { IsTrue (begins result block.now) }
+    ensures other { IsTrue (begins result other.now) }
+    ensures fits { length result ≤ width P.family }
+{
+    let net: P = prefix_of(other);
+    let mut wide: P = prefix_of(block);
+    while !wide.contains(&net) {
         wide = truncated(&wide, wide.prefix_len() - 1);
     }
-    wide
+    path_of(&wide)
 }
 
 /// A block that contains all networks of a side. For a side without networks it is one address.
@@ -66,14 +79,14 @@ fn around<P: OfFamily>(side: &Side<P, 1>) -> Path
     ensures inside { AreInside (width P.family) result (entries_of (routes_of side.now)) }
 {
     let mut routes = side.iter();
-    let Some((first, _, _)) = routes.next_net() else {
+    let Some(first) = next_path(&mut routes) else {
         return Path::new(0, <P::R as Key>::width());
     };
     let mut block = first;
-    while let Some((net, _, _)) = routes.next_net() {
-        block = widened(block, &net);
+    while let Some(path) = next_path(&mut routes) {
+        block = widened::<P>(&block, &path);
     }
-    path_of(&block)
+    block
 }
 
 /// The fewest edits of one side that give the addresses their hops after the changes.

@@ -1,7 +1,7 @@
 use Rattle.std.proofs.Common.{◌∷◌, [], sym, subst}
 use Rattle.ipnet_addr.specs.Addresses.{width}
 use Rattle.route_table.specs.InnerUpdates.{AddsInstalls}
-use Rattle.route_table.proofs.Updating.{installs_join, no_installs, within_front}
+use Rattle.route_table.proofs.Updating.{installs_join, no_installs, none_left, within_front}
 use Rattle.route_table.proofs.updates.push_installs.Goals as goal
 
 pub loop-path-preserved : goal.loop-path-preserved
@@ -18,4 +18,4 @@ pub returns : goal.returns
 returns g c =
     let f = g.P.OfFamily.family in
     let old = c.loop-path.operations.items in
-    c.loop-path.invariant.1 old (subst (λ es. AddsInstalls f es old old) (sym c.in_default.ensures.cases) (no_installs f old))
+    c.loop-path.invariant.1 old (subst (λ es. AddsInstalls f es old old) (sym (none_left c.loop-path.rest.now c.in_default.ensures.cases)) (no_installs f old))
