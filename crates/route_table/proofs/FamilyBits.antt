@@ -25,6 +25,12 @@ use Rattle.route_table.specs.InnerLeast.{address_at, entry_of, entries_of, hops_
 use Rattle.route_table.proofs.FlatPieces.{begins_host, has_begun, bits_at}
 use Rattle.route_table.proofs.Strings.{same_string}
 
+-- no block of a table has more bits than an address
+pub lengths : (w : ℕ) (t : List (List Bool × Option ℕ)) → bits.IsTable w t → (e : List Bool × Option ℕ) → In e t → length e.0 ≤ w
+lengths w [] ok e i = absurd i
+lengths w (q ∷ t) ok e (inl h) = subst (λ (p : List Bool × Option ℕ). length p.0 ≤ w) (sym h) ok.0
+lengths w (q ∷ t) ok e (inr i) = lengths w t ok.2 e i
+
 longer_entry : (r : Route) (m : Option Route) → bits.longer (entry_of r) (option_map entry_of m) ≡ Some (entry_of (longer r m))
 longer_entry r None = refl
 longer_entry r (Some s) =

@@ -26,7 +26,7 @@ use Rattle.route_laws.specs.LeastTables.{IsLeast, routes_for}
 use Rattle.route_laws.specs.Tables.{Route, IsTable, route_of}
 use Rattle.route_laws.proofs.Families.{least_of_families}
 use Rattle.route_laws.proofs.Fewest.{number_from_hop}
-use Rattle.route_table.proofs.FamilyBits.{AllOf, all_inside, family_gives, gives_bits}
+use Rattle.route_table.proofs.FamilyBits.{AllOf, all_inside, family_gives, gives_bits, lengths}
 use Rattle.route_laws.proofs.NetworksAt.{of_network_at}
 use Rattle.route_laws.proofs.Insides.{Sooner, table_of}
 use Rattle.route_table.proofs.Strings.{string_of_block, block_at_is_block}
@@ -56,11 +56,6 @@ truncated_at b = go b.family (net_of b) (ap net_of (sym (block_round_trip b)))
     go : (f : Family) (n : Network) → n ≡ net_of (block_of f n) → IsTruncated (family (net_in f n)) (parts (net_in f n))
     go Ipv4 n e = e
     go Ipv6 n e = e
-
-lengths : (w : ℕ) (t : List (List Bool × Option ℕ)) → bits.IsTable w t → (r : List Bool × Option ℕ) → In r t → length r.0 ≤ w
-lengths w [] ok r i = absurd i
-lengths w (q ∷ t) ok r (inl e) = subst (λ (p : List Bool × Option ℕ). length p.0 ≤ w) (sym e) ok.0
-lengths w (q ∷ t) ok r (inr i) = lengths w t ok.2 r i
 
 abbrev IsLess : List Bool × Option ℕ → List Bool × Option ℕ → Type 0
 IsLess r s = bits_cmp r.0 s.0 ≡ Less

@@ -1,5 +1,5 @@
 -- The routes of a family that a table of bit strings stands for: those of the installed table where it has them, and new ones elsewhere.
-use Rattle.std.proofs.Common.{◌≡◌, ℕ, ◌≤◌, ⊎_elim, inl, inr, Bool, true, false, cond, not, ◌||◌, List, [], ◌∷◌, filter, length, map, All, Option, refl, sym, ap, ◌∙◌, subst}
+use Rattle.std.proofs.Common.{◌≡◌, ℕ, ⊎_elim, inl, inr, Bool, true, false, cond, not, ◌||◌, List, [], ◌∷◌, filter, map, All, Option, refl, sym, ap, ◌∙◌, subst}
 use Rattle.std.proofs.lemmas.Bool.{and_parts, cases_Bool, cond_both, false_from_ne_true}
 use Rattle.ipnet_addr.specs.Addresses.{Family, width}
 use Rattle.ipnet_addr.proofs.Basics.{list_any-from_In}
@@ -22,7 +22,7 @@ use Rattle.route_laws.proofs.Ordered.{not_cases}
 use Rattle.route_table.specs.InnerLeast.{entry_of, entries_of}
 use Rattle.route_table.specs.InnerSides.{block_at}
 use Rattle.route_table.specs.InnerUpdates.{installed_route, routes_in}
-use Rattle.route_table.proofs.FamilyBits.{AllOf, Blocks, rising_entries}
+use Rattle.route_table.proofs.FamilyBits.{AllOf, Blocks, lengths, rising_entries}
 use Rattle.route_table.proofs.PartBits.{bits_of, held_bits, part, part_all, same_entry, string-true}
 use Rattle.route_table.proofs.Strings.{block_at_is_block, block_of_string, string_of_block}
 
@@ -31,11 +31,6 @@ map_same : {A B : Type 0} (g k : A → B) (xs : List A) → ((a : A) → In a xs
 map_same g k [] h = refl
 map_same {A} {B} g k (x ∷ xs) h = ap (λ (y : B). y ∷ map g xs) (h x (inl refl))
     ∙ ap (λ (ys : List B). k x ∷ ys) (map_same g k xs (λ a i. h a (inr i)))
-
-lengths : (w : ℕ) (t : List (List Bool × Option ℕ)) → bits.IsTable w t → (e : List Bool × Option ℕ) → In e t → length e.0 ≤ w
-lengths w [] ok e i = absurd i
-lengths w (q ∷ t) ok e (inl h) = subst (λ (p : List Bool × Option ℕ). length p.0 ≤ w) (sym h) ok.0
-lengths w (q ∷ t) ok e (inr i) = lengths w t ok.2 e i
 
 module _ (f : Family) where
   -- the route of L with this entry, or a new one
