@@ -1,16 +1,21 @@
 //! A route table.
-ghost use Rattle.std.specs.Prelude.{◌≡◌, [], Some, IfOk, OnOk, if◌then◌else◌};
+ghost use Rattle.std.specs.Prelude.{◌≡◌, [], List, Some, IfOk, OnOk, if◌then◌else◌, length};
 ghost use Rattle.std.specs.Option.{option_map};
 ghost use Rattle.ipnet_addr.specs.Addresses.{Address, IsAddress};
 ghost use Rattle.ipnet.specs.IpNets.{block};
 ghost use Rattle.ipnet_blocks.specs.Blocks.{is_inside};
 ghost use Rattle.route_choices.specs.Choices.{choices_with};
+ghost use Rattle.route_laws.specs.Batches.{painted_all};
+ghost use Rattle.route_laws.specs.LeastTables.{routes_for};
+ghost use Rattle.route_laws.specs.Nearest.{IsFewestTo};
 ghost use Rattle.route_laws.specs.Networks.{best_route, choices_at, routes_of};
+ghost use Rattle.route_laws.specs.Operations.{IsHitless, Operation, after_all};
 ghost use Rattle.route_laws.specs.Tables.{hop_at, longer, match_of, item_of};
 
 use ipnet::IpNet;
+use route_laws::laws::nearest;
 use route_table::laws::{best_routes, fewest, flat, held};
-use route_table::{AddRefused, DEFAULT_PREFERENCE, Hop, RouteTable};
+use route_table::{AddRefused, DEFAULT_PREFERENCE, Hop, HopTable, Refused, RouteTable};
 
 /// Returns the result of `get` after an accepted `add`. If the new network contains the asked network, it is the longer of two routes:
 /// the new network's best one, and the result of `get` before. Else it is the result of `get` before.
@@ -49,4 +54,19 @@ pub fn rebuilt(table: &RouteTable, empty: &mut RouteTable) -> Result<(), AddRefu
         empty.add(net, Hop::Number(number), DEFAULT_PREFERENCE)?;
     }
     Ok(())
+}
+
+/// Carries out the operations of `updates`, and returns their number. No fewer operations give each address its hop after the changes,
+/// and on the way each address changes its hop at most once.
+///
+/// # Errors
+/// `Memory` if an allocation fails; this contract says nothing of the table then.
+pub fn updated(table: &mut HopTable, changes: &[(IpNet, Hop)]) -> Result<usize, Refused>
+    ensures { IfOk result (λ n. (os : List Operation) × (routes_of table.new ≡ after_all (routes_of table.old) os) × (n ≡ length os)
+        × IsFewestTo (routes_of table.old) (hop_at (painted_all (routes_of table.old) (routes_for changes.now))) os × IsHitless (routes_of table.old) os) }
+{
+    nearest();
+    let operations = table.updates(changes)?;
+    table.carry_out(operations.as_slice())?;
+    Ok(operations.len())
 }
