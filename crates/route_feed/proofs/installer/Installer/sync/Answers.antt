@@ -12,8 +12,8 @@ returns-in_err-list g c =
     let p = err_from_is_err_and c.from_residual.result c.from_residual.ensures.1 in
     rw (p.1, p.2) (nothing_wanted g.W.Write.contents c.args.self.now c.args.self.now Sync c.args.writer.now _ c.in_err-list.ensures.memory tt)
 
+pub returns-then : goal.returns-then
+returns-then g c = ?
+
 pub returns : goal.returns
-returns g c =
-    let least = subst (λ M. IsLeast (hop_at M) (routes_for c.in_ok-list.list.items)) (ap (λ s. s.tables.table) c.self.view_is) c.in_ok-list.ensures.least in
-    taken_sync g.W.Write.contents c.args.self.now c.replace.new.self (routes_for c.in_ok-list.list.items) c.args.writer.now c.replace.new.writer c.replace.result least
-    (subst (λ l. Replaces g.W.Write.contents c.args.self.now (routes_for l) c.args.writer.now c.replace.result c.replace.new.self c.replace.new.writer) c.as_slice.ensures.value c.replace.ensures)
+returns g c = ?
