@@ -1,10 +1,10 @@
 -- Operations of changes, written one change after another.
-use Rattle.std.proofs.Common.{◌≡◌, ℕ, ◌+◌, ◌<◌, List, [], ◌∷◌, ◌++◌, length, map, take, drop, slice_index_or, Option, Result, Ok, Err, refl, sym, ap, ◌∙◌, subst, append_assoc, append-nil, take-append-drop}
+use Rattle.std.proofs.Common.{◌≡◌, ℕ, ◌+◌, ◌<◌, List, [], ◌∷◌, ◌++◌, length, map, take, slice_index_or, Option, Result, refl, sym, ap, ◌∙◌, subst, append-nil}
 use Rattle.std.proofs.lemmas.Grind.{flat_map-append}
 use Rattle.std.proofs.lemmas.List.{map-append}
 use Rattle.route_laws.specs.Batches.{batch, painted, painted_all}
-use Rattle.route_laws.specs.Operations.{Operation, between}
-use Rattle.route_laws.specs.Tables.{Route}
+use Rattle.route_laws.specs.Operations.{Operation}
+use Rattle.route_laws.specs.Tables.{Route, route_of}
 use Rattle.route_lines.specs.declared.reply.Closing.TheVariants.{Done}
 use Rattle.route_lines.specs.declared.reply.Reply.TheVariants.{Close}
 use Rattle.route_lines.specs.Texts as text
@@ -17,15 +17,18 @@ use Rattle.ipnet.specs.IpNets.{block, network_at}
 use Rattle.route_feed.specs.declared.counted.Counted.{Counted}
 use Rattle.route_feed.specs.declared.error.RunError.{RunError}
 use Rattle.route_feed.specs.declared.error.RunError.TheVariants as Why
-use Rattle.route_feed.specs.declared.follower.Waiting.{Waiting}
-use Rattle.route_feed.specs.InnerInstalling.{Begun, GivesChanges, WritesChanges, batch_bytes, operation_bytes, routes_waiting, route_waiting}
+use Rattle.ipnet.specs.declared.ip_net.IpNet.{IpNet}
+use Rattle.route_choices.specs.Choices.{default_preference}
+use Rattle.route_choices.specs.declared.hop.Hop.{Hop}
+use Rattle.route_laws.specs.LeastTables.{routes_for}
+use Rattle.route_feed.specs.InnerInstalling.{batch_bytes, operation_bytes}
 use Rattle.route_feed.specs.InnerLines.{reply_line, update_line}
 use Rattle.route_feed.specs.InnerReplies.{Written}
-use Rattle.route_feed.specs.Installing.{operation_line, printed_updates}
+use Rattle.route_feed.specs.Installing.{operation_line}
 use Rattle.route_feed.specs.Devices.{Closes, Torn}
-use Rattle.route_feed.proofs.InTurn.{after-append, made-append}
+use Rattle.route_feed.proofs.InTurn.{after-append}
 use Rattle.route_feed.proofs.Carried.{before_place}
-use Rattle.route_feed.proofs.Written.{Closes-written, Torn-after, Torn-longer, Written-trans}
+use Rattle.route_feed.proofs.Written.{Closes-written, Torn-longer}
 
 painted_all-append : (M rs ss : List Route) → painted_all M (rs ++ ss) ≡ painted_all (painted_all M rs) ss
 painted_all-append = after-append painted painted_all (λ s. refl) (λ s e es. refl)

@@ -1,7 +1,8 @@
 -- What an installer does at a note.
-use Rattle.std.proofs.Common.{◌≡◌, ℕ, ◌<◌, inl, inr, true, false, cond, List, [], ◌∷◌, ◌++◌, length, map, Option, None, Some, Result, Ok, Err, refl, sym, ap, ◌∙◌, subst, append-nil, arith}
+use Rattle.std.proofs.Common.{◌≡◌, ◌≢◌, ℕ, suc, ◌+◌, ◌<◌, inl, inr, true, false, cond, List, [], ◌∷◌, ◌++◌, length, filter, map, Option, None, Some, Result, Ok, Err, refl, sym, ap, ◌∙◌, subst, append-nil, arith}
 use Rattle.std.specs.Prelude.{IfErr, IsSome, MatchOption, OnErr, OnOk, is_some, not}
 use Rattle.std.specs.Option.{option_to_list, option_map_or}
+use Rattle.ipnet_addr.specs.Addresses.{Family, Ipv4, Ipv6, same_family}
 use Rattle.ipnet.specs.declared.ip_net.IpNet.{IpNet}
 use Rattle.route_choices.specs.Choices.{default_preference}
 use Rattle.route_choices.specs.declared.hop.Hop.{Hop}
@@ -11,6 +12,7 @@ use Rattle.route_laws.specs.Batches.{painted_all}
 use Rattle.route_laws.specs.LeastTables.{IsLeast, routes_for}
 use Rattle.route_laws.specs.Nearest.{AreUpdates, IsNearest}
 use Rattle.route_laws.specs.Networks.{Stored, routes_of}
+use Rattle.route_laws.specs.Onwards.{count_of}
 use Rattle.route_laws.specs.Operations.{Operation, after_all, between}
 use Rattle.route_laws.specs.Runs.{Event, Have, Told, Sync, Installer, after_event, after_events}
 use Rattle.route_laws.specs.Tables.{Route, IsTable, hop_at, route_of}
@@ -44,6 +46,28 @@ pub routes_are : (ws : List (IpNet × Hop)) → map route_to (changes_of ws) ≡
 routes_are [] = refl
 routes_are (w ∷ ws) = λ i. route_of w.0 (hop_back w.1 i) default_preference ∷ routes_are ws i
 
+-- the table after operations of changes
+updated : (M rs : List Route) (os : List Operation) (u : AreUpdates M rs os) → IsTable M → after_all M os ≡ u.table
+updated M rs os u m = ap (after_all M) u.operations ∙ between_reaches M u.table m u.nearest.hops.table
+
+-- it is nearest, and the operations lead to it
+pub nearest_after : (M rs N : List Route) (os : List Operation) → AreUpdates M rs os → IsTable M → N ≡ after_all M os → IsNearest M (hop_at (painted_all M rs)) N
+nearest_after M rs N os u m e = subst (IsNearest M (hop_at (painted_all M rs))) (sym (e ∙ updated M rs os u m)) u.nearest
+
+pub between_after : (M rs N : List Route) (os : List Operation) → AreUpdates M rs os → IsTable M → N ≡ after_all M os → os ≡ between M N
+between_after M rs N os u m e = u.operations ∙ ap (between M) (sym (e ∙ updated M rs os u m))
+
+-- each route is of one family
+pub counts_all : (M : List Route) → count_of Ipv4 M + count_of Ipv6 M ≡ length M
+counts_all [] = refl
+counts_all (r ∷ rs) = go r.block.family (counts_all rs)
+  where
+    go : (f : Family) → count_of Ipv4 rs + count_of Ipv6 rs ≡ length rs
+        → length (cond (same_family f Ipv4) (r ∷ filter (λ (s : Route). same_family s.block.family Ipv4) rs) (filter (λ (s : Route). same_family s.block.family Ipv4) rs))
+        + length (cond (same_family f Ipv6) (r ∷ filter (λ (s : Route). same_family s.block.family Ipv6) rs) (filter (λ (s : Route). same_family s.block.family Ipv6) rs)) ≡ suc (length rs)
+    go Ipv4 h = omega (arith, h)
+    go Ipv6 h = omega (arith, h)
+
 -- what is installed, and is kept
 abbrev pub kept_at : List Route → List Change → Installing
 kept_at M cs = record { tables = record { table = M; installed = M; kept = true }; pending = cs }
@@ -51,10 +75,6 @@ kept_at M cs = record { tables = record { table = M; installed = M; kept = true 
 -- what is installed, and is not kept
 abbrev pub unkept_at : List Route → List Route → List Change → Installing
 unkept_at M I cs = record { tables = record { table = M; installed = I; kept = false }; pending = cs }
-
--- the table after operations of changes
-pub updated : (M rs : List Route) (os : List Operation) (u : AreUpdates M rs os) → IsTable M → after_all M os ≡ u.table
-updated M rs os u m = ap (after_all M) u.operations ∙ between_reaches M u.table m u.nearest.hops.table
 
 module _ {W : Type 0} (contents : W → Option (List ℕ)) where
   -- a note of these events
@@ -213,6 +233,15 @@ module _ {W : Type 0} (contents : W → Option (List ℕ)) where
       taken_quiet contents a b line old (ap (λ o. option_map_or is_done o false) shut)
       (λ i. record { tables = tables i; pending = (pending ∙ sym (ap (λ o. pending_after a.pending o (change_of line)) shut ∙ ap (λ o. a.pending ++ option_to_list o) is)) i })
   keep_of a b line c old (Err e) shut is tables pending memory = nothing_wanted contents a b (N.Reply line) old e memory (inl (subst IsSome (sym is) refl))
+
+-- a least table of another length than the table that is kept: that is no least one
+pub never_stays : (table : List Stored) (before : Option (List Stored)) (cs : List Change) (a : Installing) (L : List Route) → record { tables = tables_of table before; pending = cs } ≡ a → IsLeast (hop_at (routes_of table)) L
+    → (is_some before ≡ false → length (routes_of table) ≢ length L) → a.tables.kept ≡ true → IsLeast (hop_at a.tables.table) a.tables.installed → L ≡ a.tables.installed
+never_stays table None cs a L is least other k stays =
+    let M = routes_of table in
+    let m : IsLeast (hop_at M) M = subst (λ (s : Installing). IsLeast (hop_at s.tables.table) s.tables.installed) (sym is) stays in
+    absurd (other refl (let same : length M ≡ length L = omega (arith, m.fewest L least.hops, least.fewest M m.hops) in same))
+never_stays table (Some old) cs a L is least other k stays = let f = ap (λ s. s.tables.kept) is ∙ k in absurd (cc)
 
 -- ---- lines
 

@@ -3,19 +3,17 @@ use Rattle.std.specs.Prelude.{◌≡◌, ℕ, true, false, not, List, [], ◌∷
 use Rattle.route_lines.specs.declared.cutter.Line.{Line}
 use Rattle.route_lines.specs.declared.note.Note.{Note}
 use Rattle.route_lines.specs.declared.update.Update.TheVariants as U
-use Rattle.route_choices.specs.Choices.{default_preference}
-use Rattle.route_laws.specs.Batches.{AreChanges, batch, painted_all}
+use Rattle.route_laws.specs.Batches.{painted_all}
 use Rattle.route_laws.specs.LeastTables.{IsLeast}
+use Rattle.route_laws.specs.Nearest.{IsNearest}
 use Rattle.route_laws.specs.Networks.{Stored, routes_of}
 use Rattle.route_laws.specs.Operations.{Operation, between}
 use Rattle.route_laws.specs.Runs.{Event, Have, Told, Sync, Installer, after_event}
-use Rattle.route_laws.specs.Tables.{Route, IsTable, hop_at, route_of}
+use Rattle.route_laws.specs.Tables.{Route, IsTable, hop_at}
 use Rattle.route_feed.specs.declared.counted.Counted.{Counted}
 use Rattle.route_feed.specs.declared.error.RunError.{RunError}
 use Rattle.route_feed.specs.declared.error.RunError.TheVariants as Why
-use Rattle.route_feed.specs.declared.follower.Waiting.{Waiting}
 use Rattle.route_feed.specs.InnerLines.{note_in}
-use Rattle.route_feed.specs.InnerReplies.{Written}
 use Rattle.route_feed.specs.Installing.{Installing, IsUnfit, MayWant, Noted, after_note, batches, event_of, noted_bytes, operation_line, printed_updates}
 use Rattle.route_feed.specs.Devices.{Closed, Torn}
 

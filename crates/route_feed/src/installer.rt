@@ -1,11 +1,16 @@
 //! An installer: keeps an installed table in sync with a leader's reply lines.
-ghost use Rattle.std.specs.Prelude.{◌≡◌, ◌≢◌, ◌<◌, ◌++◌, ◌∷◌, [], IfErr, IfOk, IsOk, OnErr, OnOk, length, map, false, true};
+ghost use Rattle.std.specs.Prelude.{◌≡◌, ◌≢◌, ◌<◌, ◌++◌, ◌∷◌, [], All, IfErr, IfOk, IsOk, OnErr, OnOk, length, map, false, true};
+ghost use Rattle.ipnet.specs.IpNets.{family, parts};
+ghost use Rattle.ipnet_blocks.specs.Networks.{IsTruncated};
 ghost use Rattle.route_choices.specs.Choices.{default_preference};
 ghost use Rattle.route_laws.specs.Batches.{painted_all};
 ghost use Rattle.route_laws.specs.LeastTables.{IsLeast, routes_for};
+ghost use Rattle.route_laws.specs.Nearest.{IsNearest};
 ghost use Rattle.route_laws.specs.Networks.{routes_of};
+ghost use Rattle.route_laws.specs.Operations.{between};
 ghost use Rattle.route_laws.specs.Tables.{IsTable, hop_at, route_of};
 ghost use Rattle.route_lines.specs.declared.note.Note.{Note};
+ghost use Rattle.route_table.specs.Operations.{network_of, operation_of};
 ghost use Rattle.route_feed.specs.Counted.{CanCount};
 ghost use Rattle.route_feed.specs.Devices.{Closes};
 ghost use Rattle.route_feed.specs.Installing.{begin, route_to};
@@ -21,7 +26,7 @@ use crate::error::RunError;
 use crate::writing::{close, write_operations};
 use ipnet::IpNet;
 use route_lines::{Closing, Note, Reply};
-use route_table::{Hop, HopTable};
+use route_table::{Hop, HopTable, Operation};
 use std::alloc::Global;
 use std::io::Write;
 use std::marker::Model;
@@ -90,6 +95,18 @@ fn table_of(alloc: Global, list: &[(IpNet, Hop)]) -> Result<HopTable, RunError>
     Ok(HopTable::from_routes(alloc, list)?)
 }
 
+/// Carries out the changes by the fewest operations, and returns these.
+fn update(table: &mut HopTable, changes: &[(IpNet, Hop)]) -> Result<Vec<Operation>, RunError>
+    ensures nearest { IfOk result (λ operations. IsNearest (routes_of table.old) (hop_at (painted_all (routes_of table.old) (routes_for changes.now))) (routes_of table.new)) }
+    ensures operations { IfOk result (λ operations. map operation_of operations.items ≡ between (routes_of table.old) (routes_of table.new)) }
+    ensures truncated { IfOk result (λ operations. All (λ o. IsTruncated (family (network_of o)) (parts (network_of o))) operations.items) }
+    ensures memory { IfErr result (λ e. e ≡ RunError.Memory) }
+{
+    let operations = table.updates(changes)?;
+    table.carry_out(operations.as_slice())?;
+    Ok(operations)
+}
+
 /// Whether the table has as many networks as the list.
 fn has_as_many(table: &HopTable, list: &[(IpNet, Hop)]) -> bool
     ensures same { result ≡ true → length (routes_of table.now) ≡ length list.now }
@@ -97,7 +114,7 @@ fn has_as_many(table: &HopTable, list: &[(IpNet, Hop)]) -> bool
     ensures table { IsTable (routes_of table.now) }
 {
     let (v4, v6) = table.count();
-    list.len().checked_sub(v4) == Some(v6)
+    v4 <= list.len() && list.len() - v4 == v6
 }
 
 impl Installer {
@@ -229,7 +246,7 @@ impl Installer {
         } else if self.waiting.is_empty() {
             Ok(())
         } else {
-            self.update(writer)
+            self.commit_seen(writer)
         }
     }
 
@@ -246,16 +263,15 @@ impl Installer {
         Ok(())
     }
 
-    /// Commits the pending changes by the fewest operations. They are written after the table has them, so a batch never ends for want of
-    /// memory.
-    fn update<W: Write>(&mut self, writer: &mut Counted<W>) -> Result<(), RunError>
+    /// Commits the pending changes, and writes the operations for them. Nothing is written before the table has all of them, so no batch is
+    /// cut off for want of memory.
+    fn commit_seen<W: Write>(&mut self, writer: &mut Counted<W>) -> Result<(), RunError>
         requires counts { CanCount writer.old }
         requires kept { self.old.tables.kept ≡ true }
         requires some { 0 < length self.old.pending }
         ensures { TakesNote W.contents self.old (Note.Reply (Reply.Close Closing.Done)) writer.old result self.new writer.new }
     {
-        let operations = self.table.updates(self.waiting.as_slice())?;
-        self.table.carry_out(operations.as_slice())?;
+        let operations = update(&mut self.table, self.waiting.as_slice())?;
         give_batch(writer, operations.as_slice())?;
         self.waiting.clear();
         Ok(())

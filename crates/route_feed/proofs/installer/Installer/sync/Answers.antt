@@ -11,9 +11,3 @@ pub returns-in_err-list : goal.returns-in_err-list
 returns-in_err-list g c =
     let p = err_from_is_err_and c.from_residual.result c.from_residual.ensures.1 in
     rw (p.1, p.2) (nothing_wanted g.W.Write.contents c.args.self.now c.args.self.now Sync c.args.writer.now _ c.in_err-list.ensures.memory tt)
-
-pub returns-then : goal.returns-then
-returns-then g c = ?
-
-pub returns : goal.returns
-returns g c = ?
