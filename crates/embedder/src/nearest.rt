@@ -1,9 +1,9 @@
 //! The fewest operations that give the addresses of a table new hops.
-ghost use Rattle.std.specs.Prelude.{◌≡◌, ◌≤◌, ℕ, Bool, IfOk, List, None, Option, length};
+ghost use Rattle.std.specs.Prelude.{◌≡◌, ◌≤◌, IfOk, None, length};
 ghost use Rattle.least_table.specs.InnerOrders.{IsInOrder};
-ghost use Rattle.least_table.specs.Tables.{Gives, IsTable};
+ghost use Rattle.least_table.specs.Tables.{IsTable};
 ghost use Rattle.nearest_table.specs.Changed.{AreInside};
-ghost use Rattle.nearest_table.specs.Nearest.{distance};
+ghost use Rattle.nearest_table.specs.Nearest.{IsFewest};
 ghost use Rattle.nearest_table.specs.Told.{told_hop};
 
 use nearest_table::nearest;
@@ -11,7 +11,8 @@ use nearest_table::tables::Table;
 use std::alloc::{AllocError, Global};
 use trie_core::Path;
 
-/// The number of operations that the changes need. Each table with the new hops differs from the installed one in at least as many blocks.
+/// The number of operations that the changes need: some table with the new hops differs from the installed one in so many blocks, and
+/// none in fewer.
 ///
 /// # Errors
 /// `AllocError` if an allocation fails.
@@ -28,7 +29,7 @@ pub fn needed<I: Table, C: Table>(
     requires order { IsInOrder (I.routes installed.now) }
     requires changes { IsTable I.width (C.routes changes.now) }
     requires inside { AreInside I.width block.now (C.routes changes.now) }
-    ensures { IfOk result (λ n. (t : List (List Bool × Option ℕ)) → Gives I.width (told_hop (C.routes changes.now) (I.routes installed.now)) None t → n ≤ distance (I.routes installed.now) t) }
+    ensures { IfOk result (IsFewest I.width (told_hop (C.routes changes.now) (I.routes installed.now)) (I.routes installed.now) None) }
 {
     let edits = nearest(alloc, installed, changes, block)?;
     Ok(edits.len())

@@ -5,7 +5,7 @@ use crate::show::{begin, end, ended, ended_list, line, lines};
 use crate::subject::Subject;
 use crate::tables::{ROUTES, change};
 use ipnet::IpNet;
-use route_table::{Hop, HopTable, Refused};
+use route_table::{Hop, HopTable, Operation, Refused};
 use std::alloc::Global;
 
 /// The calls of such tables that allocate, and those that do not.
@@ -15,6 +15,8 @@ pub enum HopTableCall {
     Paint,
     FromRoutes,
     Least,
+    Updates,
+    CarryOut,
     Free,
 }
 
@@ -52,6 +54,13 @@ impl Subject for HopTable {
                 ended_list(rt, self.least());
                 Ok(())
             }
+            HopTableCall::Updates => updates(rt, self),
+            HopTableCall::CarryOut => change(rt, self, network("10.1.3.0/24")?, |table, net| {
+                table.carry_out(&[Operation::Install {
+                    net,
+                    hop: Hop::Number(9),
+                }])
+            }),
             HopTableCall::Free => free(rt, self),
         }
     }
@@ -72,6 +81,18 @@ fn answer_table(rt: &HostRuntime, outcome: Result<HopTable, Refused>) {
     if let Some(table) = ended(rt, outcome) {
         lines(rt, "answer ", table.flat());
     }
+}
+
+/// The operations of changes in both families, one of them inside another.
+fn updates(rt: &HostRuntime, table: &HopTable) -> Result<(), Fault> {
+    let changes = [
+        (network("10.1.0.0/16")?, Hop::Number(9)),
+        (network("10.1.2.0/24")?, Hop::Drop),
+        (network("2001:db8::/31")?, Hop::Number(9)),
+    ];
+    begin(rt);
+    ended_list(rt, table.updates(&changes));
+    Ok(())
 }
 
 /// Calls that store nothing new, then the operations to a least table, and those of a change of a network with another inside.

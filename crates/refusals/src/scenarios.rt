@@ -27,7 +27,7 @@ pub enum Call {
 }
 
 /// The names and their calls.
-static SCENARIOS: [(&str, Call); 87] = [
+static SCENARIOS: [(&str, Call); 89] = [
     ("aggregate-ipv4", Net(NetCall::AggregateIpv4)),
     ("aggregate-ipv6", Net(NetCall::AggregateIpv6)),
     ("aggregate-mixed", Net(NetCall::AggregateMixed)),
@@ -106,6 +106,8 @@ static SCENARIOS: [(&str, Call); 87] = [
     ("hop-table-paint", HopTable(HopTableCall::Paint)),
     ("hop-table-from-routes", HopTable(HopTableCall::FromRoutes)),
     ("hop-table-least", HopTable(HopTableCall::Least)),
+    ("hop-table-updates", HopTable(HopTableCall::Updates)),
+    ("hop-table-carry-out", HopTable(HopTableCall::CarryOut)),
     ("free-hop-table", HopTable(HopTableCall::Free)),
     ("lead", Feed(FeedCall::Lead)),
     ("follow", Feed(FeedCall::Follow)),

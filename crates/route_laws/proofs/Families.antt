@@ -29,10 +29,10 @@ family_tested a b e = family_from_test a.family b.family (and_parts _ _ (and_par
 pub apart : (b : Block) → is_inside b (family_block Ipv4) ≡ true → is_inside b (family_block Ipv6) ≡ true → ⊥
 apart b e f = families_apart (sym (family_tested b (family_block Ipv4) e) ∙ family_tested b (family_block Ipv6) f)
 
-separate : (x : Address) → HasAddress (family_block Ipv4) x → HasAddress (family_block Ipv6) x → ⊥
+pub separate : (x : Address) → HasAddress (family_block Ipv4) x → HasAddress (family_block Ipv6) x → ⊥
 separate x h k = families_apart (sym h.0 ∙ k.0)
 
-order : (a b : Block) → IsInside a (family_block Ipv4) → IsInside b (family_block Ipv6) → IsBefore a b
+pub order : (a b : Block) → IsInside a (family_block Ipv4) → IsInside b (family_block Ipv6) → IsBefore a b
 order a b h k =
     let f = ap rank (h (first_of a) (has_first a)).0 in
     let g = ap rank (k (first_of b) (has_first b)).0 in
@@ -60,7 +60,7 @@ part_gives h N g f =
     record { table = p.table; inside = p.inside; same = λ x m. p.same x m ∙ hop_is N x ∙ g.same x (member_is_address (family_block f) x (whole_is_block f) m) }
 
 module _ (h : Address → Option ℕ) (L N : List Route) (gl : GivesInside h (family_block Ipv4) None L) (gn : GivesInside h (family_block Ipv6) None N) where
-  both_have : HasHops h (L ++ N)
+  pub both_have : HasHops h (L ++ N)
   both_have = record {
     table = joined_table (family_block Ipv4) (family_block Ipv6) (whole_is_block Ipv4) (whole_is_block Ipv6) apart separate order h None L N gl gn;
     same = λ x a. sym (hop_is (L ++ N) x) ∙ at x x.family (in_family x a);

@@ -1,136 +1,52 @@
 -- Tables of one family as tables over bit strings.
-use Rattle.std.proofs.Common.{◌≡◌, ℕ, suc, ◌-◌, ◌*◌, ◌^◌, ◌<◌, ◌≤◌, ⊎_elim, Bool, true, IsTrue, false, cond, nat_lt, inl, inr, List, [], ◌∷◌, ◌++◌, length, All, AllPairs, IfOk, IfSome, Result, Ok, Err, Option, Some, None, option_map, refl, sym, ap, ap₂, ◌∙◌, subst, arith}
-use Rattle.std.proofs.Math.Nat.{mod-eq_of_lt}
+use Rattle.std.proofs.Common.{◌≡◌, ℕ, suc, ◌^◌, ◌<◌, ◌≤◌, ⊎_elim, Bool, IsTrue, inl, inr, List, [], ◌∷◌, ◌++◌, length, All, AllPairs, IfOk, IfSome, Result, Ok, Err, Option, Some, None, refl, sym, ap, ap₂, ◌∙◌, subst, arith}
 use Rattle.std.specs.declared.cmp.Ordering.TheVariants.{Less}
 use Rattle.ipnet.proofs.IpNetworks.{net_family}
-use Rattle.ipnet_addr.specs.Addresses.{Family, Ipv4, Ipv6, Address, IsAddress, width}
+use Rattle.ipnet_addr.specs.Addresses.{Family, Ipv4, Ipv6, Address, width}
 use Rattle.ipnet_addr.proofs.Members.{In, In-cases}
 use Rattle.ipnet_addr.proofs.Ascending.{In-from_All, All-from_In, Rising, Rising-from_pairs}
-use Rattle.ipnet_blocks.specs.BitStrings.{begins, bits_cmp}
-use Rattle.ipnet_blocks.specs.Blocks.{Block, IsBlock, IsBefore, IsInside, digits, bit_string, family_block, first_of, host, is_inside}
+use Rattle.ipnet_blocks.specs.BitStrings.{bits_cmp}
+use Rattle.ipnet_blocks.specs.Blocks.{Block, IsBlock, IsBefore, bit_string, family_block}
 use Rattle.ipnet_blocks.specs.Networks.{Network, IsTruncated, block_of, net_of}
-use Rattle.ipnet_blocks.proofs.BlockLaws.{has_first}
-use Rattle.ipnet_blocks.proofs.Maximals.{member_is_address}
 use Rattle.ipnet_blocks.proofs.NetworkBlocks.{block_round_trip}
 use Rattle.ipnet_blocks.proofs.Order.{order_of_strings}
-use Rattle.ipnet_blocks.proofs.Search.{whole_is_block, inside_whole}
-use Rattle.ipnet_blocks.proofs.Strings.{length-digits}
 use Rattle.ipnet.specs.IpNets.{block, family, parts, net_in, network_at}
 use Rattle.ipnet.specs.declared.ip_net.IpNet.{IpNet}
 use Rattle.least_table.specs.Pieces.{hop_at, strings}
 use Rattle.least_table.specs.Tables as bits
 use Rattle.trie_core.specs.Bits.{number_from}
-use Rattle.trie_core.proofs.Numbers.{number_bound, number-digits, one_power}
 use Rattle.route_choices.specs.Choices.{default_preference}
 use Rattle.route_choices.specs.Hops.{IsHop, hop_from}
 use Rattle.route_choices.specs.declared.hop.Hop.{Hop}
 use Rattle.route_choices.proofs.Kept.{In-map, map_In, map_append}
-use Rattle.route_laws.specs.Fewest.{handed, hop_under, GivesInside, IsFewest}
-use Rattle.route_table.specs.InnerLeast.{ArePieces, AreLeast, AreLeastOf, address_at, entry_of, entries_of, items_of}
+use Rattle.route_laws.specs.Fewest.{GivesInside, IsFewest}
+use Rattle.route_table.specs.InnerLeast.{ArePieces, AreLeast, AreLeastOf, entries_of, items_of}
 use Rattle.route_table.specs.InnerSides.{block_at}
 use Rattle.route_laws.specs.LeastTables.{IsLeast, routes_for}
-use Rattle.route_laws.specs.Tables.{Route, IsTable, covering, longer, longest, match_of, route_of}
-use Rattle.route_laws.proofs.Families.{in_family, least_of_families}
+use Rattle.route_laws.specs.Tables.{Route, IsTable, route_of}
+use Rattle.route_laws.proofs.Families.{least_of_families}
 use Rattle.route_laws.proofs.Fewest.{number_from_hop}
-use Rattle.route_table.proofs.FlatPieces.{begins_host, has_begun, bits_at}
+use Rattle.route_table.proofs.FamilyBits.{AllOf, all_inside, family_gives, gives_bits, lengths}
 use Rattle.route_laws.proofs.NetworksAt.{of_network_at}
-use Rattle.route_laws.proofs.Insides.{Sooner, sound, rising, table_of, has_from_test, test_from_has}
-use Rattle.route_laws.proofs.Matches.{bools_same}
-use Rattle.route_laws.proofs.Ordered.{before_apart}
-use Rattle.route_table.proofs.Strings.{same_string, string_of_block, block_at_is_block}
+use Rattle.route_laws.proofs.Insides.{Sooner, table_of}
+use Rattle.route_table.proofs.Strings.{string_of_block, block_at_is_block}
 use Rattle.route_table.proofs.Walked.{network_of_key}
 
 -- ---- from blocks to bit strings
 
-longer_entry : (r : Route) (m : Option Route) → bits.longer (entry_of r) (option_map entry_of m) ≡ Some (entry_of (longer r m))
-longer_entry r None = refl
-longer_entry r (Some s) = rw (length-digits r.block.len r.block.quotient, length-digits s.block.len s.block.quotient) (go (nat_lt r.block.len s.block.len))
-  where
-    go : (c : Bool) → cond c (Some (entry_of s)) (Some (entry_of r)) ≡ Some (entry_of (cond c s r))
-    go true = refl
-    go false = refl
+length-map : (M : List Route) → length (entries_of M) ≡ length M
+length-map [] = refl
+length-map (r ∷ M) = ap suc (length-map M)
 
--- the longest match of an address
-match_entry : (x : Address) → IsAddress x → (M : List Route) → ((r : Route) → In r M → IsBlock r.block × (r.block.family ≡ x.family)) → bits.longest (entries_of M) (bit_string (host x)) ≡ option_map entry_of (match_of M (host x))
-match_entry x a [] ok = refl
-match_entry x a (r ∷ M) ok = go (is_inside (host x) r.block) same (match_entry x a M (λ s i. ok s (inr i)))
-  where
-    p : IsBlock r.block
-    p = (ok r (inl refl)).0
+module _ (f : Family) (h : Address → Option ℕ) (ps : List (List Bool × ℕ)) (pieces : ArePieces f h ps) (N : List Route) (t : IsTable N) (all : AllOf f N) (least : bits.IsLeast (width f) (hop_at ps) (entries_of N)) where
+  pub least_gives : GivesInside h (family_block f) None N
+  least_gives = family_gives f h (hop_at ps) pieces.same N t all least.gives
 
-    e : r.block.family ≡ x.family
-    e = (ok r (inl refl)).1
-
-    same : begins (bit_string r.block) (bit_string (host x)) ≡ is_inside (host x) r.block
-    same = bools_same _ _ (λ t. test_from_has x a r p (has_begun r.block x p a e t)) (λ t. begins_host r.block x p a e (has_from_test x a r p t))
-
-    go : (c : Bool) → begins (bit_string r.block) (bit_string (host x)) ≡ c → bits.longest (entries_of M) (bit_string (host x)) ≡ option_map entry_of (match_of M (host x))
-        → bits.longest (entries_of (r ∷ M)) (bit_string (host x)) ≡ option_map entry_of (longest (cond c (r ∷ covering M (host x)) (covering M (host x))))
-    go true t k = rw (t, k) (longer_entry r (match_of M (host x)))
-    go false t k = rw t k
-
-hop_entry : (m : Option Route) → bits.hop_of None (option_map entry_of m) ≡ handed None m
-hop_entry None = refl
-hop_entry (Some r) = refl
-
-module _ (f : Family) where
-  abbrev pub AllOf : List Route → Type 0
-  AllOf M = (r : Route) → In r M → r.block.family ≡ f
-
-  hop_bits : (M : List Route) (x : Address) → IsTable M → AllOf M → IsAddress x → x.family ≡ f → bits.hop (entries_of M) (bit_string (host x)) ≡ hop_under None M x
-  hop_bits M x t all a e = ap (bits.hop_of None) (match_entry x a M (λ r i. ((sound M t r i).0, all r i ∙ sym e))) ∙ hop_entry (match_of M (host x))
-
-  absent : (b : Block) (M : List Route) → IsBlock b → b.family ≡ f → ((r : Route) → In r M → IsBlock r.block × (r.block.family ≡ f) × IsBefore b r.block) → bits.Absent (bit_string b) (entries_of M)
-  absent b [] p e k = tt
-  absent b (s ∷ M) p e k = (
-    (λ u. let t = k s (inl refl) in before_apart b s.block t.2 (sym (same_string s.block b t.0 p (t.1 ∙ sym e) u))),
-    absent b M p e (λ r i. k r (inr i)),
-  )
-
-  table_entries : (M : List Route) → ((r : Route) → In r M → IsBlock r.block × (r.block.family ≡ f)) → Rising Sooner M → bits.IsTable (width f) (entries_of M)
-  table_entries [] k up = tt
-  table_entries (r ∷ M) k up =
-      let t = k r (inl refl) in
-      let w : r.block.len ≤ width f = subst (λ g. r.block.len ≤ width g) t.1 t.0.in_width in
-      (omega (arith, w, length-digits r.block.len r.block.quotient), absent r.block M t.0 t.1 (λ s i. ((k s (inr i)).0, (k s (inr i)).1, up.0 s i)), table_entries M (λ s i. k s (inr i)) up.1)
-
-  string_of_bits : (x : Address) → IsAddress x → x.family ≡ f → address_at f (bit_string (host x)) ≡ x
-  string_of_bits x a e =
-      let w = width x.family in
-      let n : number_from w (digits w x.number) ≡ x.number =
-      number-digits w w x.number (omega arith) ∙ ap (λ m. m * 2 ^ (w - w)) (mod-eq_of_lt a) ∙ one_power x.number w in
-      subst (λ g. address_at g (bit_string (host x)) ≡ x) e (λ i. record { family = x.family; number = n i })
-
-  length-map : (M : List Route) → length (entries_of M) ≡ length M
-  length-map [] = refl
-  length-map (r ∷ M) = ap suc (length-map M)
-
-  module _ (h : Address → Option ℕ) (ps : List (List Bool × ℕ)) (pieces : ArePieces f h ps) where
-    -- a table of the family's addresses gives the hops as bit strings
-    gives_bits : (M : List Route) → AllOf M → GivesInside h (family_block f) None M → bits.Gives (width f) (hop_at ps) None (entries_of M)
-    gives_bits M all g = record {
-      table = table_entries M (λ r i. ((sound M g.table r i).0, all r i)) (rising M g.table);
-      same = λ s e.
-          let x = address_at f s in
-          let a : IsAddress x = number_bound (width f) s in
-          ap (bits.hop (entries_of M)) (sym (bits_at f s e)) ∙ hop_bits M x g.table all a refl ∙ g.same x (in_family x a) ∙ sym (pieces.same s e);
-    }
-
-    pub family_gives : (N : List Route) → IsTable N → AllOf N → bits.IsLeast (width f) (hop_at ps) (entries_of N) → GivesInside h (family_block f) None N
-    family_gives N t all least = record {
-      table = t;
-      inside = All-from_In (λ r. IsInside r.block (family_block f)) N (λ r i. inside_whole r.block f (sound N t r i).0 (all r i));
-      same = λ x m.
-          let a = member_is_address (family_block f) x (whole_is_block f) m in
-          let w : length (bit_string (host x)) ≡ width f = length-digits (width x.family) x.number ∙ ap width m.0 in
-          sym (hop_bits N x t all a m.0) ∙ (least.gives).same (bit_string (host x)) w ∙ pieces.same (bit_string (host x)) w ∙ ap h (string_of_bits x a m.0);
-    }
-
-    pub family_fewest : (N : List Route) → IsTable N → AllOf N → bits.IsLeast (width f) (hop_at ps) (entries_of N) → IsFewest h (family_block f) None (length N)
-    family_fewest N t all least = record {
-      reached = (N, family_gives N t all least, refl);
-      least = λ L g. omega (arith, length-map N, length-map L, least.fewest (entries_of L) (gives_bits L (λ r i. (In-from_All (λ (q : Route). IsInside q.block (family_block f)) L g.inside r i (first_of r.block) (has_first r.block)).0) g));
-    }
+  pub family_fewest : IsFewest h (family_block f) None (length N)
+  family_fewest = record {
+    reached = (N, least_gives, refl);
+    least = λ L g. omega (arith, length-map N, length-map L, least.fewest (entries_of L) (gives_bits f h (hop_at ps) pieces.same L (all_inside f h (hop_at ps) pieces.same L g) g));
+  }
 
 -- ---- networks of one family as keys, as routes
 
@@ -140,11 +56,6 @@ truncated_at b = go b.family (net_of b) (ap net_of (sym (block_round_trip b)))
     go : (f : Family) (n : Network) → n ≡ net_of (block_of f n) → IsTruncated (family (net_in f n)) (parts (net_in f n))
     go Ipv4 n e = e
     go Ipv6 n e = e
-
-lengths : (w : ℕ) (t : List (List Bool × Option ℕ)) → bits.IsTable w t → (r : List Bool × Option ℕ) → In r t → length r.0 ≤ w
-lengths w [] ok r i = absurd i
-lengths w (q ∷ t) ok r (inl e) = subst (λ (p : List Bool × Option ℕ). length p.0 ≤ w) (sym e) ok.0
-lengths w (q ∷ t) ok r (inr i) = lengths w t ok.2 r i
 
 abbrev IsLess : List Bool × Option ℕ → List Bool × Option ℕ → Type 0
 IsLess r s = bits_cmp r.0 s.0 ≡ Less
@@ -248,7 +159,7 @@ module _ (ps qs : List (List Bool × ℕ)) (ns ms : List (IpNet × Hop)) (v4 : A
       let A = family_routes Ipv4 ns v4.in_family in
       let B = family_routes Ipv6 ms v6.in_family in
       subst (λ N. IsLeast h N) (sym (map_append (λ (r : IpNet × Hop). route_of r.0 r.1 default_preference) ns ms)) (least_of_families h (routes_for ns) (routes_for ms)
-      (family_gives Ipv4 h ps pieces4 (routes_for ns) v4.table A v4.least) (family_gives Ipv6 h qs pieces6 (routes_for ms) v6.table B v6.least)
+      (least_gives Ipv4 h ps pieces4 (routes_for ns) v4.table A v4.least) (least_gives Ipv6 h qs pieces6 (routes_for ms) v6.table B v6.least)
       (family_fewest Ipv4 h ps pieces4 (routes_for ns) v4.table A v4.least) (family_fewest Ipv6 h qs pieces6 (routes_for ms) v6.table B v6.least))
 
   truncated_of_both : All (λ r. IsTruncated (family r.0) (parts r.0)) (ns ++ ms)

@@ -5,6 +5,7 @@ pub mod Room
 pub mod Seams
 pub mod Searches
 pub mod Stores
+pub mod Asked
 pub mod Found
 pub mod Calls
 pub mod InPlace
@@ -28,8 +29,14 @@ pub mod HopRuns
 pub mod Halves
 pub mod Owned
 pub mod FlatPieces
+pub mod FamilyBits
+pub mod PartBits
+pub mod NewRoutes
+pub mod Overlaid
+pub mod FewestUpdates
 pub mod LeastBits
 pub mod Looks
 pub mod Paints
 pub mod Repaints
 pub mod UpdateRows
+pub mod Updating

@@ -17,7 +17,7 @@ use Rattle.route_laws.proofs.Ordered.{same_or_not, put_back, put_itself, put_oth
 use Rattle.route_table.proofs.Seams.{HasStored, has_stored, in_side, is_side, side_is, stored_path}
 use Rattle.route_table.proofs.Strings.{same_string}
 
-string_or_not : (s t : List Bool) → (s ≡ t) ⊎ (s ≡ t → ⊥)
+pub string_or_not : (s t : List Bool) → (s ≡ t) ⊎ (s ≡ t → ⊥)
 string_or_not s t = go (same s t) refl
   where
     go : (b : Bool) → same s t ≡ b → (s ≡ t) ⊎ (s ≡ t → ⊥)

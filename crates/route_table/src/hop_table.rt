@@ -6,7 +6,7 @@ ghost use Rattle.prefix_trie.specs.declared.refused.Refused.TheVariants.{Memory}
 ghost use Rattle.route_choices.specs.Choices.{default_preference};
 ghost use Rattle.route_laws.specs.LeastTables.{routes_for};
 ghost use Rattle.route_laws.specs.Networks.{IsStoredTable, choices_at, routes_of};
-ghost use Rattle.route_laws.specs.Tables.{IsTable, route_of, routes_inside, with_route};
+ghost use Rattle.route_laws.specs.Tables.{IsTable, route_of, routes_inside, with_route, without_block};
 ghost use Rattle.route_table.specs.Given.{AreRoutes, IsEmptied, IsFlatOf};
 
 use crate::flat::Flat;
@@ -87,6 +87,18 @@ impl HopTable {
     {
         let _is_leaf = self.store(cleared(&net), hop, DEFAULT_PREFERENCE)?;
         Ok(())
+    }
+
+    /// Removes the network's route, if it is stored. The routes inside the network are unchanged.
+    pub(crate) fn remove(&mut self, net: &IpNet)
+        requires { IsBlock (block net.now) }
+        ensures routes { routes_of self.new ≡ without_block (routes_of self.old) (block net.now) }
+        ensures tables { IsStoredTable self.old × IsStoredTable self.new }
+    {
+        match *net {
+            IpNet::V4(net) => self.v4.remove(net),
+            IpNet::V6(net) => self.v6.remove(net),
+        }
     }
 
     /// The routes inside the network, ascending.

@@ -25,7 +25,7 @@ use std::alloc::{AllocError, Global};
 use std::marker::Model;
 
 /// The hop of a number, or `drop` for none.
-fn hop_of(number: Option<u32>) -> Hop
+pub(crate) fn hop_of(number: Option<u32>) -> Hop
     ensures value { result ≡ hop_from number }
     ensures in_range { IsHop result }
 {

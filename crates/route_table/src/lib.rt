@@ -31,6 +31,7 @@ mod refused;
 mod repaint;
 mod routes;
 mod runs;
+mod searched;
 mod side;
 mod side_routes;
 mod table;

@@ -5,7 +5,7 @@ ghost use Rattle.ipnet_blocks.specs.Blocks.{IsBlock, has_address, left, right};
 ghost use Rattle.ipnet.specs.IpNets.{block, family, parts};
 ghost use Rattle.prefix_trie.specs.declared.refused.Refused.TheVariants.{Memory};
 ghost use Rattle.route_choices.specs.Choices.{default_preference};
-ghost use Rattle.route_choices.specs.Hops.{number_of};
+ghost use Rattle.route_choices.specs.Hops.{IsHop, number_of};
 ghost use Rattle.route_laws.specs.Networks.{IsStoredTable, choices_at, networks_outside, overwritten_by, routes_of};
 ghost use Rattle.route_laws.specs.Tables.{hop_at};
 
@@ -44,6 +44,7 @@ impl<const CAPACITY: usize> Table<CAPACITY> {
     pub fn overwrite(&mut self, net: IpNet, hop: Hop) -> Result<(), Refused>
         ensures networks { OnOk result (self.new ≡ overwritten_by self.old (block net) (record { hop = hop; pref = default_preference })) }
         ensures tables { IsStoredTable self.old × IsStoredTable self.new }
+        ensures change { IsBlock (block net) × IsHop hop }
         ensures hops { OnOk result ((x : Address) → IsAddress x → hop_at (routes_of self.new) x ≡ (if has_address (block net) x then number_of hop else hop_at (routes_of self.old) x)) }
         ensures memory { IfErr result (λ e. e ≡ Memory) }
         ensures unchanged { OnErr result (self.new ≡ self.old) }

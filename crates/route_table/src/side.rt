@@ -8,7 +8,7 @@ ghost use Rattle.prefix_trie.specs.declared.refused.Refused.TheVariants.{Memory}
 ghost use Rattle.route_choices.specs.Choices.{has_none, holds_hop, is_one_too_many};
 ghost use Rattle.route_choices.specs.Hops.{IsHop};
 ghost use Rattle.route_laws.specs.Onwards.{count_of, routes_after, routes_from};
-ghost use Rattle.route_laws.specs.Networks.{IsLeaf, choices_at, networks_outside, routes_of, with_choice, with_choices, without_choice};
+ghost use Rattle.route_laws.specs.Networks.{IsLeaf, choices_at, networks_outside, routes_of, with_choice, with_choices, without_choice, without_stored};
 ghost use Rattle.route_table.specs.InnerSides.{IsSide};
 ghost use Rattle.route_table.specs.Refusals.{IsRefused};
 ghost use Rattle.route_table.specs.Tries.{map_of};
@@ -40,7 +40,7 @@ fn change(
 /// The networks in arguments must be blocks: callers clear the host bits.
 #[derive(Drop)]
 pub(crate) struct Side<P: OfFamily, const CAPACITY: usize> {
-    networks: PrefixMap<P, Choices<CAPACITY>>,
+    pub(crate) networks: PrefixMap<P, Choices<CAPACITY>>,
 }
 
 impl<P: OfFamily, const CAPACITY: usize> Model for Side<P, CAPACITY> {
@@ -309,5 +309,14 @@ impl<P: OfFamily> Side<P, 1> {
     {
         let walk = Box::new(alloc, self.networks.into_iter())?;
         Ok(SideRoutes::new(Entries::Owned(walk)))
+    }
+
+    /// Removes exactly this network, if it is stored.
+    pub(crate) fn remove(&mut self, net: P)
+        requires { IsBlock (block_of P.family (P.parts net)) }
+        ensures networks { self.new ≡ without_stored self.old (block_of P.family (P.parts net)) }
+        ensures side { IsSide P.family self.new }
+    {
+        self.networks.remove(&net);
     }
 }

@@ -160,6 +160,19 @@ fn repainted(rt: &impl Abort, table: &HopTable) {
     assert!(rt; matches!(first, Some(Operation::Remove { .. })));
 }
 
+/// Hop 1 for the half too, by one operation.
+fn updated(rt: &impl Abort, table: &mut HopTable) {
+    let half = net(rt, "10.0.0.0/9");
+    let changes = [(half, Hop::Number(1))];
+    let updates = table.updates(&changes).expect(rt, "memory");
+    assert_eq!(rt;
+        updates.as_slice(),
+        [Operation::Remove { net: half }].as_slice()
+    );
+    assert_eq!(rt; table.carry_out(updates.as_slice()), Ok(()));
+    assert!(rt; matches!(table.get(&half), Some((_, Hop::Number(1), 100))));
+}
+
 /// Hop 3 for all of 10.0.0.0/8, and the first operation back.
 fn overwritten(rt: &impl Abort, table: &mut HopTable) {
     let wide = net(rt, "10.0.0.0/8");
@@ -187,4 +200,11 @@ fn two_hops(rt: HostRuntime) {
     repainted(&rt, &table);
     overwritten(&rt, &mut table);
     painted(&rt, &mut table);
+}
+
+#[test]
+fn one_update(rt: HostRuntime) {
+    let mut table = HopTable::new(rt.alloc()).expect(&rt, "a table");
+    installed(&rt, &mut table);
+    updated(&rt, &mut table);
 }

@@ -24,6 +24,8 @@ enum Step {
     Flat(&'static str),
     /// `repaint`: changes, and the operations for each.
     Repaint(&'static [(&'static str, &'static str)]),
+    /// `updates` and `carry_out`: changes, the number of operations that carry them out, and the flat list after that.
+    Update(&'static str, usize, &'static str),
     /// `between`: the operations that turn this table into a table painted with these routes.
     Between(&'static str, &'static str),
     /// `from_routes`: a table made of the least routes.
@@ -88,6 +90,19 @@ fn repaint(rt: &impl Abort, table: &HopTable, rows: &[(&str, &str)]) {
     }
 }
 
+/// Checks the number of the operations that carry out the changes of the text, and the flat list after them.
+fn update(rt: &impl Abort, alloc: Global, table: &mut HopTable, row: &(&str, usize, &str)) {
+    let (text, count, pieces) = *row;
+    let mut changes = Vec::new(alloc);
+    for words in text.split_terminator(',') {
+        changes.push(route(rt, words.trim())).expect(rt, "memory");
+    }
+    let updates = table.updates(changes.as_slice()).expect(rt, "memory");
+    row_is(rt, text, updates.len(), count);
+    row_is(rt, text, table.carry_out(updates.as_slice()), Ok(()));
+    flat_is(rt, alloc, table.flat(), pieces);
+}
+
 /// Checks that a table made of the least routes has just these routes.
 fn is_rebuilt(rt: &impl Abort, alloc: Global, table: &HopTable) {
     let list = table.least().expect(rt, "memory");
@@ -111,6 +126,7 @@ fn go(rt: &impl Abort, alloc: Global, table: &mut HopTable, step: &Step) {
         Step::Get(rows) => matches_are(rt, table, rows),
         Step::Flat(pieces) => flat_is(rt, alloc, table.flat(), pieces),
         Step::Repaint(rows) => repaint(rt, table, rows),
+        Step::Update(text, count, pieces) => update(rt, alloc, table, &(*text, *count, *pieces)),
         Step::Between(text, wanted) => between(rt, alloc, table, text, wanted),
         Step::FromRoutes => is_rebuilt(rt, alloc, table),
     }
@@ -180,8 +196,47 @@ const MATCHES: [(&str, &str); 6] = [
     ("2001:db9::/32", "::/0 6"),
 ];
 
+/// Changes in turn, the number of operations that each needs, and the flat list after it.
+const UPDATES: [Step; 7] = [
+    Step::Change(
+        Change::Install,
+        "10.0.0.0/8 1, 10.0.0.0/9 2, 2001:db8::/32 1",
+    ),
+    // one route that is no longer needed
+    Step::Update("10.0.0.0/9 1", 1, "10.0.0.0/8 1, 2001:db8::/32 1"),
+    // both families; one network has host bits
+    Step::Update(
+        "10.0.0.0/10 2, 2001:db8::1/33 drop",
+        2,
+        "10.0.0.0/10 2, 10.64.0.0/10 1, 10.128.0.0/9 1, 2001:db8:8000::/33 1",
+    ),
+    // the rest of 10.0.0.0/9, and an older change inside a newer one
+    Step::Update(
+        "10.0.0.0/11 3, 10.0.0.0/9 2, 10.96.0.0/11 4",
+        2,
+        "10.0.0.0/10 2, 10.64.0.0/11 2, 10.96.0.0/11 4, 10.128.0.0/9 1, 2001:db8:8000::/33 1",
+    ),
+    // all hops as they are
+    Step::Update(
+        "10.96.0.0/11 4, 2001:db8::/33 drop",
+        0,
+        "10.0.0.0/10 2, 10.64.0.0/11 2, 10.96.0.0/11 4, 10.128.0.0/9 1, 2001:db8:8000::/33 1",
+    ),
+    Step::Update(
+        "",
+        0,
+        "10.0.0.0/10 2, 10.64.0.0/11 2, 10.96.0.0/11 4, 10.128.0.0/9 1, 2001:db8:8000::/33 1",
+    ),
+    // a default route over all others, but for a half that gets its hop too
+    Step::Update(
+        "::/0 1, 2001:db8::/33 drop",
+        1,
+        "10.0.0.0/10 2, 10.64.0.0/11 2, 10.96.0.0/11 4, 10.128.0.0/9 1, ::/3 1, 2000::/16 1, 2001::/21 1, 2001:800::/22 1, 2001:c00::/24 1, 2001:d00::/25 1, 2001:d80::/27 1, 2001:da0::/28 1, 2001:db0::/29 1, 2001:db8:8000::/33 1, 2001:db9::/32 1, 2001:dba::/31 1, 2001:dbc::/30 1, 2001:dc0::/26 1, 2001:e00::/23 1, 2001:1000::/20 1, 2001:2000::/19 1, 2001:4000::/18 1, 2001:8000::/17 1, 2002::/15 1, 2004::/14 1, 2008::/13 1, 2010::/12 1, 2020::/11 1, 2040::/10 1, 2080::/9 1, 2100::/8 1, 2200::/7 1, 2400::/6 1, 2800::/5 1, 3000::/4 1, 4000::/2 1, 8000::/1 1",
+    ),
+];
+
 /// Scripts, and the least table at the end of each.
-static SCRIPTS: [(&str, &[Step], &str); 5] = [
+static SCRIPTS: [(&str, &[Step], &str); 7] = [
     // A network that is given twice, one inside another, and one of the other family.
     (
         "a table of one hop a network",
@@ -227,6 +282,22 @@ static SCRIPTS: [(&str, &[Step], &str); 5] = [
         "10.0.0.0/12 4, 10.0.0.0/16 1, 10.128.0.0/9 1, ::/0 6, 2001:db8::/32 drop, 2001:db8::/34 5, 2001:db8:8000::/33 1",
     ),
     ("a table of an empty list", &[Step::FromRoutes], ""),
+    (
+        "updates by the fewest operations",
+        &UPDATES,
+        "10.0.0.0/8 1, 10.0.0.0/9 2, 10.96.0.0/11 4, ::/0 1, 2001:db8::/33 drop",
+    ),
+    (
+        "all addresses are dropped; a `drop` stays",
+        &[
+            Step::Change(
+                Change::Install,
+                "10.0.0.0/8 1, 10.0.0.0/10 2, 2001:db8::/32 1, 2001:db8::/33 drop",
+            ),
+            Step::Update("0.0.0.0/0 drop, ::/0 drop", 3, ""),
+        ],
+        "",
+    ),
 ];
 
 #[test]

@@ -1,6 +1,12 @@
-use Rattle.std.proofs.Common.{arith}
-use Rattle.embedder.proofs.Edits.{at_least}
+use Rattle.std.proofs.Common.{sym, subst}
+use Rattle.nearest_table.specs.Nearest.{IsFewest}
+use Rattle.nearest_table.specs.Told.{told_hop}
+use Rattle.embedder.proofs.Edits.{fewest}
 use Rattle.embedder.proofs.nearest.needed.Goals as goal
 
 pub returns : goal.returns
-returns g c = λ t h. let l = at_least g.I.Table.width (g.C.Table.routes c.args.changes.now) (g.I.Table.routes c.args.installed.now) c.in_ok-edits.edits.items c.in_ok-edits.ensures t h in omega (arith, l, c.len.ensures)
+returns g c =
+    let t = g.I.Table.routes c.args.installed.now in
+    let cs = g.C.Table.routes c.args.changes.now in
+    let f = fewest g.I.Table.width cs t c.in_ok-edits.edits.items c.in_ok-edits.ensures in
+    subst (IsFewest g.I.Table.width (told_hop cs t) t None) (sym c.len.ensures) f

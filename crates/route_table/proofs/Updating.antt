@@ -1,0 +1,262 @@
+-- Changes as a table, the block around them, and the operations of edits, one after another.
+use Rattle.std.proofs.Common.{◌≡◌, ℕ, ◌+◌, ◌<◌, ◌≤◌, ◌⊎◌, inl, inr, ⊎_elim, Bool, true, false, List, [], ◌∷◌, ◌++◌, All, Option, Some, None, length, map, take, refl, sym, ap, ◌∙◌, subst, not, arith, append_assoc, append-nil}
+use Rattle.std.specs.List.{slice_index_or}
+use Rattle.std.proofs.lemmas.List.{map-append, reverse-append, take_more}
+use mathlib.Core.List.{reverse}
+use Rattle.ipnet_addr.specs.Addresses.{Family, Ipv4, Ipv6, width}
+use Rattle.ipnet_addr.proofs.Members.{In, In-cases, In-left}
+use Rattle.ipnet_addr.proofs.Ascending.{All-from_In, In-from_All}
+use Rattle.ipnet_blocks.specs.BitStrings.{begins}
+use Rattle.ipnet_blocks.specs.Blocks.{Block, IsBlock, bit_string}
+use Rattle.ipnet_blocks.specs.Networks.{IsTruncated, Network}
+use Rattle.ipnet.specs.IpNets.{block, family, net_in, network_at, parts}
+use Rattle.ipnet.specs.declared.ip_net.IpNet.{IpNet}
+use Rattle.least_table.specs.Tables.{IsTable}
+use Rattle.nearest_table.specs.Changed.{AreInside, MakeNearest}
+use Rattle.nearest_table.specs.Edits.{blocks, installed_in, removed_in}
+use Rattle.nearest_table.specs.Nearest.{has, stores, surplus}
+use Rattle.prefix_trie.proofs.Covered.{begins_through}
+use Rattle.route_choices.specs.Choices.{default_preference}
+use Rattle.route_choices.specs.Hops.{IsHop, hop_from}
+use Rattle.route_choices.specs.declared.hop.Hop.{Hop}
+use Rattle.route_choices.proofs.Kept.{In-from_filter, In-map}
+use Rattle.route_laws.specs.Batches.{AreChanges}
+use Rattle.route_laws.specs.LeastTables.{routes_for}
+use Rattle.route_laws.specs.Operations.{Operation, Install, Remove, after, after_all, installs}
+use Rattle.route_laws.specs.Overwritten.{overwritten}
+use Rattle.route_laws.specs.Tables.{Route, route_of}
+use Rattle.route_table.specs.InnerLeast.{entry_of, entries_of}
+use Rattle.route_table.specs.InnerSides.{block_at}
+use Rattle.route_table.specs.InnerUpdates.{AddsInstalls, AddsRemoves, AreTruncated, AreWithin, GivesPath, blocks_in, installed_route, operations_of, overwritten_all, routes_in}
+use Rattle.route_table.specs.Operations.{network_of, operation_of}
+use Rattle.route_table.specs.declared.between.Operation as Given
+use Rattle.route_table.specs.declared.between.Operation.TheVariants as One
+use Rattle.route_laws.proofs.NetworksAt.{of_network_at}
+use Rattle.route_table.proofs.Asked.{longest_none}
+use Rattle.route_table.proofs.Looks.{is_truncated}
+use Rattle.route_table.proofs.Strings.{network_of_string}
+use Rattle.trie_core.specs.Bits.{number_from}
+
+-- ---- changes as a table
+
+over_more : (M rs : List Route) (r : Route) → overwritten_all M (rs ++ r ∷ []) ≡ overwritten (overwritten_all M rs) r
+over_more M [] r = refl
+over_more M (s ∷ rs) r = over_more (overwritten M s) rs r
+
+abbrev route_for : IpNet × Hop → Route
+route_for p = route_of p.0 p.1 default_preference
+
+routes_more : (xs : List (IpNet × Hop)) (i : ℕ) (p : IpNet × Hop) → i < length xs → p ≡ slice_index_or xs i p → routes_for (take (i + 1) xs) ≡ routes_for (take i xs) ++ route_for p ∷ []
+routes_more xs i p l is = ap routes_for (take_more xs i p l ∙ ap (λ q. take i xs ++ q ∷ []) (sym is)) ∙ map-append route_for (take i xs) (p ∷ [])
+
+pub over_next : (xs : List (IpNet × Hop)) (i : ℕ) (p : IpNet × Hop) → i < length xs → p ≡ slice_index_or xs i p → (M N : List Route) → M ≡ overwritten_all [] (routes_for (take i xs)) → N ≡ overwritten M (route_for p)
+    → N ≡ overwritten_all [] (routes_for (take (i + 1) xs))
+over_next xs i p l is M N m n = n ∙ ap (λ K. overwritten K (route_for p)) m ∙ sym (ap (overwritten_all []) (routes_more xs i p l is) ∙ over_more [] (routes_for (take i xs)) (route_for p))
+
+pub no_changes : AreChanges []
+no_changes = record { blocks = All-from_In (λ (r : Route). IsBlock r.block) [] (λ r i. absurd i); hops = All-from_In (λ (r : Route). IsHop r.hop) [] (λ r i. absurd i) }
+
+all_more : {X : Type 0} (P : X → Type 0) (xs : List X) (x : X) → All P xs → P x → All P (xs ++ x ∷ [])
+all_more P xs x all p = All-from_In P (xs ++ x ∷ []) (λ y i. ⊎_elim (λ j. In-from_All P xs all y j) (λ j. ⊎_elim (λ e. subst P (sym e) p) (λ k. absurd k) j) (In-cases y xs (x ∷ []) i))
+
+pub changes_next : (xs : List (IpNet × Hop)) (i : ℕ) (p : IpNet × Hop) → i < length xs → p ≡ slice_index_or xs i p → AreChanges (routes_for (take i xs)) → IsBlock (block p.0) → IsHop p.1 → AreChanges (routes_for (take (i + 1) xs))
+changes_next xs i p l is c b h = subst AreChanges (sym (routes_more xs i p l is)) (record {
+  blocks = all_more (λ (r : Route). IsBlock r.block) (routes_for (take i xs)) (route_for p) c.blocks b;
+  hops = all_more (λ (r : Route). IsHop r.hop) (routes_for (take i xs)) (route_for p) c.hops h;
+})
+
+-- ---- the block around
+
+pub begins_itself : (a : List Bool) → begins a a ≡ true
+begins_itself [] = refl
+begins_itself (true ∷ a) = begins_itself a
+begins_itself (false ∷ a) = begins_itself a
+
+-- a block that is no beginning of another has a bit
+pub some_bit : (a b : List Bool) → (begins a b ≡ true → ⊥) → 0 < length a
+some_bit [] b not_it = absurd (not_it refl)
+some_bit (x ∷ a) b not_it = omega arith
+
+-- all of these routes have strings that the block begins
+abbrev pub AreBegun : List Bool → List Route → Type 0
+AreBegun b M = (r : Route) → In r M → begins b (bit_string r.block) ≡ true
+
+pub begun_wider : (a b : List Bool) (M : List Route) → begins a b ≡ true → AreBegun b M → AreBegun a M
+begun_wider a b M e all r i = begins_through a b (bit_string r.block) e (all r i)
+
+pub begun_inside : (w : ℕ) (b : List Bool) (M : List Route) → AreBegun b M → AreInside w b (entries_of M)
+begun_inside w b M all x l out = longest_none (entries_of M) x (λ q i e.
+    let t = In-map entry_of M q i in
+    let f : begins b q.0 ≡ true = ap (λ (p : List Bool × Option ℕ). begins b p.0) t.2 ∙ all t.0 t.1 in
+    let g = sym out ∙ begins_through b q.0 x f e in
+    cc)
+
+-- what is left of the routes of a side, when one more was looked at
+pub begun_first : (f : Family) (M left : List Route) (s : List Bool) → GivesPath f M (Some s) left → (r : Route) → In r M → (begins s (bit_string r.block) ≡ true) ⊎ In r left
+begun_first f M left s g r i = ⊎_elim
+    (λ e. inl (subst (λ t. begins s t ≡ true) (sym (ap (λ (q : Route). bit_string q.block) e ∙ g.2)) (begins_itself s)))
+    (λ j. inr j)
+    (subst (λ l. In r l) g.1 i)
+
+pub begun_next : (f : Family) (old new : List Bool) (M rest left : List Route) (s : List Bool) → GivesPath f rest (Some s) left → begins new old ≡ true → begins new s ≡ true
+    → ((r : Route) → In r M → (begins old (bit_string r.block) ≡ true) ⊎ In r rest) → (r : Route) → In r M → (begins new (bit_string r.block) ≡ true) ⊎ In r left
+begun_next f old new M rest left s g wide here so_far r i = ⊎_elim
+    (λ e. inl (begins_through new old (bit_string r.block) wide e))
+    (λ j. ⊎_elim (λ e. inl (subst (λ t. begins new t ≡ true) (sym (ap (λ (q : Route). bit_string q.block) e ∙ g.2)) here)) (λ k. inr k) (subst (λ l. In r l) g.1 j))
+    (so_far r i)
+
+-- all were looked at
+pub begun_all : (b : List Bool) (M left : List Route) → left ≡ [] → ((r : Route) → In r M → (begins b (bit_string r.block) ≡ true) ⊎ In r left) → AreBegun b M
+begun_all b M left e all r i = ⊎_elim (λ h. h) (λ j. absurd (subst (λ l. In r l) e j)) (all r i)
+
+-- ---- operations one by one
+
+pub after_more : (M : List Route) (os : List Operation) (o : Operation) → after_all M (os ++ o ∷ []) ≡ after (after_all M os) o
+after_more M [] o = refl
+after_more M (p ∷ os) o = after_more (after M p) os o
+
+pub after_next : (M : List Route) (xs : List Given.Operation) (i : ℕ) (o : Given.Operation) → i < length xs → o ≡ slice_index_or xs i o
+    → after_all M (map operation_of (take (i + 1) xs)) ≡ after (after_all M (map operation_of (take i xs))) (operation_of o)
+after_next M xs i o l is =
+    ap (λ ys. after_all M (map operation_of ys)) (take_more xs i o l ∙ ap (λ p. take i xs ++ p ∷ []) (sym is))
+    ∙ ap (after_all M) (map-append operation_of (take i xs) (o ∷ []))
+    ∙ after_more M (map operation_of (take i xs)) (operation_of o)
+
+-- ---- operations of edits
+
+abbrev Edit : Type 0
+Edit = List Bool × Option (Option ℕ)
+
+installed-append : (es gs : List Edit) → installed_in (es ++ gs) ≡ installed_in es ++ installed_in gs
+installed-append [] gs = refl
+installed-append ((b, Some k) ∷ es) gs = ap (λ l. (b, k) ∷ l) (installed-append es gs)
+installed-append ((b, None) ∷ es) gs = installed-append es gs
+
+removed-append : (es gs : List Edit) → removed_in (es ++ gs) ≡ removed_in es ++ removed_in gs
+removed-append [] gs = refl
+removed-append ((b, Some k) ∷ es) gs = removed-append es gs
+removed-append ((b, None) ∷ es) gs = ap (λ l. b ∷ l) (removed-append es gs)
+
+module _ (f : Family) where
+  routes-append : (es gs : List Edit) → routes_in f (es ++ gs) ≡ routes_in f es ++ routes_in f gs
+  routes-append es gs = ap (map (installed_route f)) (installed-append es gs) ∙ map-append (installed_route f) (installed_in es) (installed_in gs)
+
+  blocks-append : (es gs : List Edit) → blocks_in f (es ++ gs) ≡ blocks_in f es ++ blocks_in f gs
+  blocks-append es gs = ap (map (block_at f)) (removed-append es gs) ∙ map-append (block_at f) (removed_in es) (removed_in gs)
+
+  -- the installs of the last edits, and then those of the edits before
+  pub installs_join : (es gs : List Edit) (old mid new : List Given.Operation) → AddsInstalls f gs old mid → AddsInstalls f es mid new → AddsInstalls f (es ++ gs) old new
+  installs_join es gs old mid new a b = record {
+    operations = b.operations ∙ ap (λ l. l ++ installs (reverse (routes_in f es))) a.operations
+        ∙ append_assoc (map operation_of old) (installs (reverse (routes_in f gs))) (installs (reverse (routes_in f es)))
+        ∙ ap (λ l. map operation_of old ++ l) (sym (
+        ap (λ l. installs (reverse l)) (routes-append es gs)
+        ∙ ap installs (reverse-append (routes_in f es) (routes_in f gs))
+        ∙ map-append Install (reverse (routes_in f gs)) (reverse (routes_in f es))));
+    hops = subst (λ rs. All (λ (r : Route). IsHop r.hop) rs) (sym (routes-append es gs)) (All-from_In (λ (r : Route). IsHop r.hop) (routes_in f es ++ routes_in f gs)
+        (λ r i. ⊎_elim (In-from_All (λ (r : Route). IsHop r.hop) (routes_in f es) b.hops r) (In-from_All (λ (r : Route). IsHop r.hop) (routes_in f gs) a.hops r) (In-cases r (routes_in f es) (routes_in f gs) i)));
+    truncated = λ t. b.truncated (a.truncated t);
+  }
+
+  pub no_installs : (os : List Given.Operation) → AddsInstalls f [] os os
+  no_installs os = record { operations = sym (append-nil (map operation_of os)); hops = All-from_In (λ (r : Route). IsHop r.hop) [] (λ r i. absurd i); truncated = λ t. t }
+
+  -- the removes of edits, and then those of the edits behind
+  pub removes_join : (es gs : List Edit) (old mid new : List Given.Operation) → AddsRemoves f es old mid → AddsRemoves f gs mid new → AddsRemoves f (es ++ gs) old new
+  removes_join es gs old mid new a b = record {
+    operations = b.operations ∙ ap (λ l. l ++ map Remove (blocks_in f gs)) a.operations
+        ∙ append_assoc (map operation_of old) (map Remove (blocks_in f es)) (map Remove (blocks_in f gs))
+        ∙ ap (λ l. map operation_of old ++ l) (sym (ap (map Remove) (blocks-append es gs) ∙ map-append Remove (blocks_in f es) (blocks_in f gs)));
+    truncated = λ t. b.truncated (a.truncated t);
+  }
+
+  pub no_removes : (os : List Given.Operation) → AddsRemoves f [] os os
+  no_removes os = record { operations = sym (append-nil (map operation_of os)); truncated = λ t. t }
+
+  pub removes_next : (xs : List Edit) (i : ℕ) (e : Edit) → i < length xs → e ≡ slice_index_or xs i e → (old mid new : List Given.Operation) → AddsRemoves f (take i xs) old mid → AddsRemoves f (e ∷ []) mid new
+      → AddsRemoves f (take (i + 1) xs) old new
+  removes_next xs i e l is old mid new a b =
+      subst (λ es. AddsRemoves f es old new) (sym (take_more xs i e l ∙ ap (λ d. take i xs ++ d ∷ []) (sym is))) (removes_join (take i xs) (e ∷ []) old mid new a b)
+
+  -- one operation more
+  truncated_more : (os : List Given.Operation) (o : Given.Operation) → IsTruncated (family (network_of o)) (parts (network_of o)) → AreTruncated os → AreTruncated (os ++ o ∷ [])
+  truncated_more os o t all = all_more (λ (p : Given.Operation). IsTruncated (family (network_of p)) (parts (network_of p))) os o all t
+
+  at_block : (b : List Bool) (net : IpNet) → net ≡ network_at (block_at f b) → block net ≡ block_at f b
+  at_block b net n = ap block n ∙ of_network_at (block_at f b)
+
+  bare_bits : (b : List Bool) (net : IpNet) → net ≡ network_at (block_at f b) → IsTruncated (family net) (parts net)
+  bare_bits b net n = is_truncated net (n ∙ ap network_at (sym (at_block b net n)))
+
+  pub install_added : (b : List Bool) (k : Option ℕ) (net : IpNet) (hop : Hop) (os : List Given.Operation) → net ≡ network_at (block_at f b) → hop ≡ hop_from k → IsHop hop
+      → AddsInstalls f ((b, Some k) ∷ []) os (os ++ One.Install net hop ∷ [])
+  install_added b k net hop os n h ok = record {
+    operations = map-append operation_of os (One.Install net hop ∷ []) ∙ (λ i. map operation_of os ++ Install (record { block = at_block b net n i; hop = h i; pref = default_preference }) ∷ []);
+    hops = All-from_In (λ (r : Route). IsHop r.hop) (routes_in f ((b, Some k) ∷ [])) (λ r i. ⊎_elim (λ q. subst (λ (r : Route). IsHop r.hop) (sym q) (subst IsHop h ok)) (λ j. absurd j) i);
+    truncated = truncated_more os (One.Install net hop) (bare_bits b net n);
+  }
+
+  pub remove_added : (b : List Bool) (net : IpNet) (os : List Given.Operation) → net ≡ network_at (block_at f b) → AddsRemoves f ((b, None) ∷ []) os (os ++ One.Remove net ∷ [])
+  remove_added b net os n = record {
+    operations = map-append operation_of os (One.Remove net ∷ []) ∙ (λ i. map operation_of os ++ Remove (at_block b net n i) ∷ []);
+    truncated = truncated_more os (One.Remove net) (bare_bits b net n);
+  }
+
+pub none_left : {X : Type 0} (xs : List X) → length xs ≡ 0 → xs ≡ []
+none_left [] e = refl
+none_left (x ∷ xs) e = absurd (omega (arith, e))
+
+pub none_truncated : AreTruncated []
+none_truncated = All-from_In (λ (o : Given.Operation). IsTruncated (family (network_of o)) (parts (network_of o))) [] (λ o i. absurd i)
+
+pub within_front : (w : ℕ) (es front : List Edit) (e : Edit) → es ≡ front ++ e ∷ [] → AreWithin w es → AreWithin w front
+within_front w es front e is all = All-from_In (λ (d : Edit). length d.0 ≤ w) front
+    (λ d i. In-from_All (λ (d : Edit). length d.0 ≤ w) es all d (subst (λ l. In d l) (sym is) (In-left d front (e ∷ []) i)))
+
+-- all operations
+pub operations_are : (es4 es6 : List Edit) (o1 o2 o3 o4 : List Given.Operation) → AddsInstalls Ipv6 es6 [] o1 → AddsInstalls Ipv4 es4 o1 o2 → AddsRemoves Ipv4 es4 o2 o3 → AddsRemoves Ipv6 es6 o3 o4
+    → map operation_of o4 ≡ operations_of es4 es6
+operations_are es4 es6 o1 o2 o3 o4 a b c d =
+    let R4 = routes_in Ipv4 es4 in
+    let R6 = routes_in Ipv6 es6 in
+    let B4 = map Remove (blocks_in Ipv4 es4) in
+    let B6 = map Remove (blocks_in Ipv6 es6) in
+    d.operations ∙ ap (λ l. l ++ B6) c.operations ∙ ap (λ l. (l ++ B4) ++ B6) (b.operations ∙ ap (λ l. l ++ installs (reverse R4)) a.operations)
+    ∙ append_assoc (installs (reverse R6) ++ installs (reverse R4)) B4 B6
+    ∙ (λ i. sym (map-append Install (reverse R6) (reverse R4)) i ++ sym (map-append Remove (blocks_in Ipv4 es4) (blocks_in Ipv6 es6)) i)
+    ∙ ap (λ l. installs l ++ map Remove (blocks_in Ipv4 es4 ++ blocks_in Ipv6 es6)) (sym (reverse-append R4 R6))
+
+-- the network of a key that is made of bits
+pub network_of_bits : (f : Family) {K : Type 0} (of_bits : List Bool → K) (parts_in : K → Network) (parts_are : (s : List Bool) → parts_in (of_bits s) ≡ record { number = number_from (width f) s; len = length s })
+    → (s : List Bool) → length s ≤ width f → (k : K) → k ≡ of_bits s → net_in f (parts_in k) ≡ network_at (block_at f s)
+network_of_bits f of_bits parts_in parts_are s h k e = ap (λ j. net_in f (parts_in j)) e ∙ ap (net_in f) (parts_are s ∙ network_of_string f s h)
+
+pub width_is_short : (f : Family) → width f ≤ 128
+width_is_short Ipv4 = omega arith
+width_is_short Ipv6 = omega arith
+
+-- ---- the blocks of edits
+
+within_table : (w : ℕ) (t : List (List Bool × Option ℕ)) → IsTable w t → (r : List Bool × Option ℕ) → In r t → length r.0 ≤ w
+within_table w [] ok r i = absurd i
+within_table w (q ∷ t) ok r (inl e) = subst (λ (p : List Bool × Option ℕ). length p.0 ≤ w) (sym e) ok.0
+within_table w (q ∷ t) ok r (inr i) = within_table w t ok.2 r i
+
+from_blocks : (t : List (List Bool × Option ℕ)) (b : List Bool) → In b (blocks t) → (r : List Bool × Option ℕ) × In r t × (b ≡ r.0)
+from_blocks [] b i = absurd i
+from_blocks (r ∷ t) b (inl e) = (r, inl refl, e)
+from_blocks (r ∷ t) b (inr i) = let s = from_blocks t b i in (s.0, inr s.1, s.2)
+
+edit_within : (w : ℕ) (es : List Edit) → ((r : List Bool × Option ℕ) → In r (installed_in es) → length r.0 ≤ w) → ((b : List Bool) → In b (removed_in es) → length b ≤ w) → (e : Edit) → In e es → length e.0 ≤ w
+edit_within w [] p q e i = absurd i
+edit_within w ((b, Some k) ∷ es) p q e (inl z) = subst (λ (d : Edit). length d.0 ≤ w) (sym z) (p (b, k) (inl refl))
+edit_within w ((b, Some k) ∷ es) p q e (inr i) = edit_within w es (λ r j. p r (inr j)) q e i
+edit_within w ((b, None) ∷ es) p q e (inl z) = subst (λ (d : Edit). length d.0 ≤ w) (sym z) (q b (inl refl))
+edit_within w ((b, None) ∷ es) p q e (inr i) = edit_within w es p (λ c j. q c (inr j)) e i
+
+pub edits_within : (w : ℕ) (cs t : List (List Bool × Option ℕ)) (es : List Edit) → IsTable w t → MakeNearest w cs t es → AreWithin w es
+edits_within w cs t es ok m = All-from_In (λ (e : Edit). length e.0 ≤ w) es (edit_within w es
+    (λ r i. within_table w m.table (m.nearest.gives).table r (In-from_filter (λ r. not (has t r)) m.table r (subst (λ l. In r l) m.edits.installs i)).0)
+    (λ b i. let s = from_blocks (surplus t m.table) b (subst (λ l. In b l) m.edits.removes i) in
+    let l = within_table w t ok s.0 (In-from_filter (λ r. not (stores m.table r.0)) t s.0 s.1).0 in
+    subst (λ c. length c ≤ w) (sym s.2) l))
