@@ -2,6 +2,7 @@
 use Rattle.std.proofs.Common.{◌≡◌, ◌≢◌, ℕ, suc, ◌+◌, ◌<◌, inl, inr, true, false, cond, List, [], ◌∷◌, ◌++◌, length, filter, map, Option, None, Some, Result, Ok, Err, refl, sym, ap, ◌∙◌, subst, append-nil, arith}
 use Rattle.std.specs.Prelude.{IfErr, IsSome, MatchOption, OnErr, OnOk, is_some, not}
 use Rattle.std.specs.Option.{option_to_list, option_map_or}
+use Rattle.std.proofs.lemmas.List.{length-map}
 use Rattle.ipnet_addr.specs.Addresses.{Family, Ipv4, Ipv6, same_family}
 use Rattle.ipnet.specs.declared.ip_net.IpNet.{IpNet}
 use Rattle.route_choices.specs.Choices.{default_preference}
@@ -215,10 +216,11 @@ module _ {W : Type 0} (contents : W → Option (List ℕ)) where
         subst (λ s. TakesNote contents s (N.Reply (Close Done)) old r b new) parts
         (taken_update contents (routes_of table) T (changes_of ws) (routes_for ws) old new r b (routes_are ws) (omega (arith, length_is, some)) nearest h next)
 
-    pub stays_of : (L : List Route) → IsTable (routes_of table) → IsLeast (hop_at (routes_of table)) L → length (routes_of table) ≡ length L → Closes contents 1 old new r (reply_line (Close Done)) → TakesNote contents a N.Sync old r a new
-    stays_of L m least same h =
+    pub stays_of : (list : List (IpNet × Hop)) → IsTable (routes_of table) → IsLeast (hop_at (routes_of table)) (routes_for list) → length (routes_of table) ≡ length list → Closes contents 1 old new r (reply_line (Close Done))
+        → TakesNote contents a N.Sync old r a new
+    stays_of list m least same h =
         subst (λ s. TakesNote contents s N.Sync old r s new) parts
-        (sync_stays contents (routes_of table) L (changes_of ws) old new r m least same h)
+        (sync_stays contents (routes_of table) (routes_for list) (changes_of ws) old new r m least (same ∙ sym (length-map list (λ (p : IpNet × Hop). route_of p.0 p.1 default_preference))) h)
 
   -- changes that were carried out unseen
   pub unseen_of : (a b : Installing) (old : Counted W) (r : Result Unit RunError) → a.tables.kept ≡ false → OnOk r (b.tables ≡ record { table = painted_all a.tables.table (map route_to a.pending); installed = a.tables.installed; kept = false })
@@ -235,13 +237,14 @@ module _ {W : Type 0} (contents : W → Option (List ℕ)) where
   keep_of a b line c old (Err e) shut is tables pending memory = nothing_wanted contents a b (N.Reply line) old e memory (inl (subst IsSome (sym is) refl))
 
 -- a least table of another length than the table that is kept: that is no least one
-pub never_stays : (table : List Stored) (before : Option (List Stored)) (cs : List Change) (a : Installing) (L : List Route) → record { tables = tables_of table before; pending = cs } ≡ a → IsLeast (hop_at (routes_of table)) L
-    → (is_some before ≡ false → length (routes_of table) ≢ length L) → a.tables.kept ≡ true → IsLeast (hop_at a.tables.table) a.tables.installed → L ≡ a.tables.installed
-never_stays table None cs a L is least other k stays =
+pub never_stays : (table : List Stored) (before : Option (List Stored)) (cs : List Change) (a : Installing) (list : List (IpNet × Hop)) → record { tables = tables_of table before; pending = cs } ≡ a → IsLeast (hop_at (routes_of table)) (routes_for list)
+    → (is_some before ≡ false → length (routes_of table) ≢ length list) → a.tables.kept ≡ true → IsLeast (hop_at a.tables.table) a.tables.installed → routes_for list ≡ a.tables.installed
+never_stays table None cs a list is least other k stays =
     let M = routes_of table in
     let m : IsLeast (hop_at M) M = subst (λ (s : Installing). IsLeast (hop_at s.tables.table) s.tables.installed) (sym is) stays in
-    absurd (other refl (let same : length M ≡ length L = omega (arith, m.fewest L least.hops, least.fewest M m.hops) in same))
-never_stays table (Some old) cs a L is least other k stays = let f = ap (λ s. s.tables.kept) is ∙ k in absurd (cc)
+    let same : length M ≡ length (routes_for list) = omega (arith, m.fewest (routes_for list) least.hops, least.fewest M m.hops) in
+    absurd (other refl (same ∙ length-map list (λ (p : IpNet × Hop). route_of p.0 p.1 default_preference)))
+never_stays table (Some old) cs a list is least other k stays = let f = ap (λ s. s.tables.kept) is ∙ k in absurd (cc)
 
 -- ---- lines
 
