@@ -2,9 +2,10 @@
 use Rattle.std.proofs.Common.{◌≡◌, ℕ, ◌+◌, ◌<◌, cond, List, [], ◌∷◌, ◌++◌, length, take, slice_index_or, Option, refl, sym, ap, ◌∙◌, arith}
 use Rattle.std.proofs.lemmas.List.{take_more, map-append}
 use Rattle.ipnet.specs.IpNets.{block}
+use Rattle.ipnet.specs.declared.ip_net.IpNet.{IpNet}
+use Rattle.route_choices.specs.declared.hop.Hop.{Hop}
 use Rattle.route_choices.specs.Hops.{number_of}
 use Rattle.route_feed.specs.InnerWaiting.{waiting_change, changes_of}
-use Rattle.route_feed.specs.declared.follower.Waiting.{Waiting}
 use Rattle.ipnet_addr.specs.Addresses.{Address}
 use Rattle.ipnet_blocks.specs.Blocks.{has_address}
 use Rattle.route_feed.specs.Streams.{Change, painted_over}
@@ -18,8 +19,8 @@ pub before_place : {A : Type 0} (xs : List A) (i : ℕ) (x : A) → i < length x
 before_place xs i x h is = ap (λ k. take k xs) (omega arith) ∙ take_more xs i x h ∙ ap (λ y. take i xs ++ y ∷ []) (sym is)
 
 -- the next change
-pub one_more : (now : Option ℕ) (ws : List Waiting) (i : ℕ) (w : Waiting) (x : Address) → i < length ws → w ≡ slice_index_or ws i w
-    → cond (has_address (block w.net) x) (number_of w.hop) (painted_over now (changes_of (take i ws)) x) ≡ painted_over now (changes_of (take (i + 1) ws)) x
+pub one_more : (now : Option ℕ) (ws : List (IpNet × Hop)) (i : ℕ) (w : IpNet × Hop) (x : Address) → i < length ws → w ≡ slice_index_or ws i w
+    → cond (has_address (block w.0) x) (number_of w.1) (painted_over now (changes_of (take i ws)) x) ≡ painted_over now (changes_of (take (i + 1) ws)) x
 one_more now ws i w x h is =
     let mapped : changes_of (take (i + 1) ws) ≡ changes_of (take i ws) ++ waiting_change w ∷ [] = ap changes_of (before_place ws i w h is) ∙ map-append waiting_change (take i ws) (w ∷ []) in
     sym (painted-append now (changes_of (take i ws)) (waiting_change w ∷ []) x) ∙ ap (λ l. painted_over now l x) (sym mapped)

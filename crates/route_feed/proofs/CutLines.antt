@@ -47,14 +47,14 @@ ok_keeps (e ∷ es) s i = ⊎_elim (λ j. kept_stays es (after_event s e) (go (I
 pub no_haves : (es : List Event) (s : Installer) (M : List Route) → s.kept ≡ true → MayAllCome s es → with_haves M es ≡ M
 no_haves [] s M k m = refl
 no_haves (Have r ∷ es) s M k m = let both = sym m.0.0 ∙ k in absurd (cc)
-no_haves (Told rs ∷ es) s M k m = no_haves es (after_event s (Told rs)) M k m.1
-no_haves (Sync rs N ∷ es) s M k m = no_haves es (after_event s (Sync rs N)) M refl m.1
+no_haves (Told rs N ∷ es) s M k m = no_haves es (after_event s (Told rs N)) M k m.1
+no_haves (Sync N ∷ es) s M k m = no_haves es (after_event s (Sync N)) M refl m.1
 
 pub haves-append : (es fs : List Event) (M : List Route) → with_haves M (es ++ fs) ≡ with_haves (with_haves M es) fs
 haves-append [] fs M = refl
 haves-append (Have r ∷ es) fs M = haves-append es fs (with_route M r)
-haves-append (Told rs ∷ es) fs M = haves-append es fs M
-haves-append (Sync rs N ∷ es) fs M = haves-append es fs M
+haves-append (Told rs N ∷ es) fs M = haves-append es fs M
+haves-append (Sync N ∷ es) fs M = haves-append es fs M
 
 -- ---- where it ends
 
@@ -67,7 +67,7 @@ pub record Cut (s : Installing) (ns : List Noted) (us : List Update) : Type 0 wh
   pub lines : us ≡ update_lines s.tables (events s before) ++ begun
   pub open_batch : oks begun ≡ 0
   pub part : (begun ≡ []) ⊎ ((n : Noted) × (more : List Noted) × (tail : List Update) × (later ≡ n ∷ more)
-      × (update_lines (Installing.tables (after_notes s before)) (event_of (after_notes s before) n.note n.least) ≡ begun ++ tail))
+      × (update_lines (Installing.tables (after_notes s before)) (event_of (after_notes s before) n.note n.table) ≡ begun ++ tail))
 
 -- one list begins another, or the other way round
 abbrev Begins : {A : Type 0} → List A → List A → List A → List A → Type 0
@@ -108,18 +108,18 @@ event_open s e us t tail h = go (Installer.kept (after_event s e)) h
     go true k = open_lines (gives s e) us t tail k
     go false k = absurd (not_empty us t tail k)
 
-note_open : (s : Installing) (n : Noted) (us : List Update) (t : Update) (tail : List Update) → update_lines s.tables (event_of s n.note n.least) ≡ us ++ t ∷ tail → oks us ≡ 0
+note_open : (s : Installing) (n : Noted) (us : List Update) (t : Update) (tail : List Update) → update_lines s.tables (event_of s n.note n.table) ≡ us ++ t ∷ tail → oks us ≡ 0
 note_open s n us t tail h = ⊎_elim
     (λ none. absurd (not_empty us t tail (sym (ap (update_lines s.tables) none) ∙ h)))
     (λ o. event_open s.tables o.0 us t tail (sym (append-nil (event_lines s.tables o.0)) ∙ sym (ap (update_lines s.tables) o.1) ∙ h))
-    (one_event s n.note n.least)
+    (one_event s n.note n.table)
 
 pub where_cut : (ns : List Noted) (s : Installing) (us rest : List Update) → us ++ rest ≡ update_lines s.tables (events s ns) → Cut s ns us
 where_cut [] s [] rest e = record { before = []; later = []; is = refl; begun = []; lines = refl; open_batch = refl; part = inl refl }
 where_cut [] s (u ∷ us) rest e = absurd (cc)
 where_cut (n ∷ ns) s us rest e =
     let at = after_note s n in
-    let these = update_lines s.tables (event_of s n.note n.least) in
+    let these = update_lines s.tables (event_of s n.note n.table) in
     ⊎_elim
     (λ h. record { before = []; later = n ∷ ns; is = refl; begun = us; lines = refl; open_batch = note_open s n us h.0 h.1 h.2; part = inr (n, ns, h.0 ∷ h.1, refl, h.2) })
     (λ h. let c = where_cut ns at h.0 rest h.2 in record {
@@ -128,8 +128,8 @@ where_cut (n ∷ ns) s us rest e =
       is = ap (λ l. n ∷ l) c.is;
       begun = c.begun;
       lines = h.1 ∙ ap (λ l. these ++ l) c.lines ∙ sym (append_assoc these (update_lines at.tables (events at c.before)) c.begun)
-          ∙ ap (λ l. l ++ c.begun) (sym (lines-append s.tables (event_of s n.note n.least) (events at c.before)));
+          ∙ ap (λ l. l ++ c.begun) (sym (lines-append s.tables (event_of s n.note n.table) (events at c.before)));
       open_batch = c.open_batch;
       part = c.part;
     })
-    (begins us rest these (update_lines at.tables (events at ns)) (e ∙ lines-append s.tables (event_of s n.note n.least) (events at ns)))
+    (begins us rest these (update_lines at.tables (events at ns)) (e ∙ lines-append s.tables (event_of s n.note n.table) (events at ns)))

@@ -112,7 +112,7 @@ module _ (bytes : List ℕ) (refusals : List Bool) where
         (λ none. inl (made [] (ap (filter is_operation) none) x ∙ kept_agrees bytes refusals c.before first_before may_both.0 kept x a))
         (λ p. let (n, more, tail, later_is, begins) = p in
         let ops = operations_at c.before n in
-        let part = sym (filter-append is_operation c.begun tail) ∙ ap (filter is_operation) (sym begins) ∙ lines_operations at.tables (event_of at n.note n.least) in
+        let part = sym (filter-append is_operation c.begun tail) ∙ ap (filter is_operation) (sym begins) ∙ lines_operations at.tables (event_of at n.note n.table) in
         let i = length (filter is_operation c.begun) in
         let is = c.is ∙ ap (λ l. c.before ++ l) later_is in
         let done = made (take i ops) (first_of_map operation_line ops (filter is_operation c.begun) (filter is_operation tail) part) x in

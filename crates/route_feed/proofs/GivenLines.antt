@@ -9,7 +9,6 @@ use Rattle.route_choices.specs.Choices.{default_preference}
 use Rattle.route_choices.proofs.Kept.{filter_map_swap, map_append}
 use Rattle.route_lines.specs.declared.update.Update.{Update}
 use Rattle.route_lines.specs.declared.update.Update.TheVariants as U
-use Rattle.route_laws.specs.Batches.{batch}
 use Rattle.route_laws.specs.Operations.{Operation, Install, Remove, after_all, between}
 use Rattle.route_laws.specs.Runs.{Event, Have, Told, Sync, Installer, after_event, given, gives, start}
 use Rattle.route_laws.specs.Tables.{Route, covering, hop_at, longer, longest, match_number, match_of, route_of, with_route, without_block}
@@ -34,12 +33,12 @@ event_operations s (Have r) = go s.kept
     go : (b : Bool) → filter is_operation (cond b (U.Done ∷ []) []) ≡ []
     go true = refl
     go false = refl
-event_operations s (Told rs) = go s.kept
+event_operations s (Told rs N) = go s.kept
   where
-    go : (b : Bool) → filter is_operation (cond b (map operation_line (cond b (batch s.installed rs) []) ++ U.Done ∷ []) []) ≡ map operation_line (cond b (batch s.installed rs) [])
-    go true = batch_operations (batch s.installed rs)
+    go : (b : Bool) → filter is_operation (cond b (map operation_line (cond b (between s.installed N) []) ++ U.Done ∷ []) []) ≡ map operation_line (cond b (between s.installed N) [])
+    go true = batch_operations (between s.installed N)
     go false = refl
-event_operations s (Sync rs N) = batch_operations (between s.installed N)
+event_operations s (Sync N) = batch_operations (between s.installed N)
 
 pub lines_operations : (s : Installer) (es : List Event) → filter is_operation (update_lines s es) ≡ map operation_line (given s es)
 lines_operations s [] = refl

@@ -1,7 +1,7 @@
 -- A worked row: a session of three commands, with a route that is installed already, and a `sync` after the first reply.
-use Rattle.std.proofs.Common.{◌≡◌, ℕ, ◌≤◌, List, [], ◌∷◌, ◌++◌, Option, Some, None, map, take, length, ⊎_elim, refl, sym, subst, arith}
+use Rattle.std.proofs.Common.{◌≡◌, ℕ, ◌≤◌, List, [], ◌∷◌, ◌++◌, Option, Some, None, map, take, length, ⊎_elim, refl, sym, ap, ◌∙◌, subst, arith}
 use Rattle.std.proofs.lemmas.List.Elements.{All-cons, All-nil}
-use Rattle.ipnet_addr.specs.Addresses.{Ipv4}
+use Rattle.ipnet_addr.specs.Addresses.{Address, Ipv4, IsAddress}
 use Rattle.ipnet_blocks.specs.Blocks.{Block, IsBlock}
 use Rattle.ipnet.specs.IpNets.{network_at}
 use Rattle.ipnet.specs.declared.ip_net.IpNet.{IpNet}
@@ -14,13 +14,16 @@ use Rattle.route_lines.specs.declared.note.Note.TheVariants as N
 use Rattle.route_lines.specs.declared.reply.Closing.TheVariants.{Done}
 use Rattle.route_lines.specs.declared.reply.Reply.TheVariants.{Set, Unset, Close}
 use Rattle.route_lines.specs.declared.update.Update.TheVariants as U
-use Rattle.route_laws.specs.Batches.{AreChanges}
+use Rattle.route_laws.specs.Batches.{AreChanges, painted_all}
 use Rattle.route_laws.specs.LeastTables.{HasHops, IsLeast}
 use Rattle.route_laws.specs.Networks.{routes_of}
-use Rattle.route_laws.specs.Operations.{after_all}
+use Rattle.route_laws.specs.Nearest.{IsNearest}
+use Rattle.route_laws.specs.Operations.{Operation, after_all, between}
 use Rattle.route_laws.specs.Runs.{MayAllCome, start}
-use Rattle.route_laws.specs.Tables.{Route, hop_at}
+use Rattle.route_laws.specs.Tables.{Route, IsTable, hop_at}
+use Rattle.route_laws.proofs.Batches.{between_reaches, changes_from}
 use Rattle.route_laws.proofs.Insides.{Sound, table_of}
+use Rattle.route_laws.proofs.Nearest.{painted_all_is_table}
 use Rattle.route_feed.specs.Installing.{Noted, begin, events, update_lines}
 use Rattle.route_feed.specs.InstallLaws.{installed_by, operations_at, replies_of}
 use Rattle.route_feed.specs.Output.{table_after}
@@ -42,26 +45,36 @@ high = network_at (at 9 21)
 abbrev route : ℕ → ℕ → Hop → Route
 route len quotient hop = record { block = at len quotient; hop = hop; pref = 100 }
 
+-- the installed tables
+abbrev one : List Route
+one = route 8 10 (Number 1) ∷ []
+
+abbrev two : List Route
+two = route 8 10 (Number 1) ∷ route 9 20 (Number 2) ∷ []
+
+abbrev three : List Route
+three = route 8 10 (Number 1) ∷ route 9 20 (Number 2) ∷ route 9 21 Drop ∷ []
+
 abbrev noted : Note → Noted
-noted note = record { note = note; least = [] }
+noted note = record { note = note; table = [] }
 
 -- have 10.0.0.0/8 3; set 10.0.0.0/8 1; ok; sync; set 10.0.0.0/9 2; ok
 abbrev two_replies : List Noted
 two_replies =
     noted (N.Have whole (Number 3))
     ∷ noted (N.Reply (Set whole 1)) ∷ noted (N.Reply (Close Done))
-    ∷ record { note = N.Sync; least = route 8 10 (Number 1) ∷ [] }
-    ∷ noted (N.Reply (Set low 2)) ∷ noted (N.Reply (Close Done)) ∷ []
+    ∷ record { note = N.Sync; table = one }
+    ∷ noted (N.Reply (Set low 2)) ∷ record { note = N.Reply (Close Done); table = two } ∷ []
 
 -- unset 10.128.0.0/9; ok
 abbrev three_replies : List Noted
-three_replies = two_replies ++ noted (N.Reply (Unset high)) ∷ noted (N.Reply (Close Done)) ∷ []
+three_replies = two_replies ++ noted (N.Reply (Unset high)) ∷ record { note = N.Reply (Close Done); table = three } ∷ []
 
 -- these may come: the table of the `sync` is a least one
-least_row : IsLeast (hop_at (route 8 10 (Number 1) ∷ [])) (route 8 10 (Number 1) ∷ [])
+least_row : IsLeast (hop_at one) one
 least_row = record {
   hops = record {
-    table = table_of (route 8 10 (Number 1) ∷ [])
+    table = table_of one
         (λ r i. ⊎_elim (λ e. subst Sound (sym e) (record { in_width = omega arith; in_range = omega arith }, omega arith)) (λ j. absurd j) i)
         ((λ r i. absurd i), tt);
     same = λ x a. refl;
@@ -69,7 +82,7 @@ least_row = record {
   fewest = fewest;
 }
   where
-    fewest : (L : List Route) → HasHops (hop_at (route 8 10 (Number 1) ∷ [])) L → 1 ≤ length L
+    fewest : (L : List Route) → HasHops (hop_at one) L → 1 ≤ length L
     fewest [] h = let e = h.same (record { family = Ipv4; number = 167772160 }) (omega arith) in absurd (cc)
     fewest (r ∷ rs) h = omega arith
 
@@ -79,18 +92,39 @@ one_change len quotient hop b h = record {
   hops = All-cons (λ (r : Route). IsHop r.hop) (route len quotient hop) [] h (All-nil (λ (r : Route). IsHop r.hop));
 }
 
+-- the tables of the later replies are nearest ones: some hop turns, so one operation at least is needed
+nearest_row : (M rs : List Route) → IsTable M → AreChanges rs → length (between M (painted_all M rs)) ≤ 1 → (x : Address) → IsAddress x → (hop_at M x ≡ hop_at (painted_all M rs) x → ⊥)
+    → IsNearest M (hop_at (painted_all M rs)) (painted_all M rs)
+nearest_row M rs m are few x a turns = record {
+  hops = record { table = painted_all_is_table M rs m (changes_from rs are); same = λ y b. refl };
+  nearest = λ L l. go L l (between M L) refl;
+}
+  where
+    go : (L : List Route) → HasHops (hop_at (painted_all M rs)) L → (os : List Operation) → between M L ≡ os → length (between M (painted_all M rs)) ≤ length os
+    go L l [] e = absurd (turns (ap (λ T. hop_at T x) (ap (after_all M) (sym e) ∙ between_reaches M L m l.table) ∙ l.same x a))
+    go L l (o ∷ os) e = omega (arith, few)
+
+low_change : AreChanges (route 9 20 (Number 2) ∷ [])
+low_change = one_change 9 20 (Number 2) (record { in_width = omega arith; in_range = omega arith }) (omega arith)
+
+high_change : AreChanges (route 9 21 Drop ∷ [])
+high_change = one_change 9 21 Drop (record { in_width = omega arith; in_range = omega arith }) tt
+
+two_row : IsNearest one (hop_at (painted_all one (route 9 20 (Number 2) ∷ []))) two
+two_row = nearest_row one (route 9 20 (Number 2) ∷ []) least_row.hops.table low_change (omega arith) (record { family = Ipv4; number = 167772160 }) (omega arith) (λ e. cc)
+
+three_row : IsNearest two (hop_at (painted_all two (route 9 21 Drop ∷ []))) three
+three_row = nearest_row two (route 9 21 Drop ∷ []) two_row.hops.table high_change (omega arith) (record { family = Ipv4; number = 176160768 }) (omega arith) (λ e. cc)
+
 may_row : MayAllCome start (events begin three_replies)
 may_row =
     let eight : IsBlock (at 8 10) = record { in_width = omega arith; in_range = omega arith } in (
       (refl, eight, omega arith),
       (
-        one_change 8 10 (Number 1) eight (omega arith),
+        (one_change 8 10 (Number 1) eight (omega arith), λ k. absurd (cc)),
         (
-          (record { blocks = All-nil (λ (r : Route). IsBlock r.block); hops = All-nil (λ (r : Route). IsHop r.hop) }, least_row),
-          (
-            one_change 9 20 (Number 2) (record { in_width = omega arith; in_range = omega arith }) (omega arith),
-            (one_change 9 21 Drop (record { in_width = omega arith; in_range = omega arith }) tt, tt),
-          ),
+          (least_row, λ k l. absurd (cc)),
+          ((low_change, λ k. two_row), ((high_change, λ k. three_row), tt)),
         ),
       ),
     )
@@ -121,5 +155,5 @@ hops_row = refl
 abbrev before_last : List Noted
 before_last = two_replies ++ noted (N.Reply (Unset high)) ∷ []
 
-way_row : map (λ i. hops (after_all (installed_by before_last) (take i (operations_at before_last (noted (N.Reply (Close Done))))))) (0 ∷ 1 ∷ []) ≡ (Some 2 ∷ Some 1 ∷ []) ∷ (Some 2 ∷ None ∷ []) ∷ []
+way_row : map (λ i. hops (after_all (installed_by before_last) (take i (operations_at before_last (record { note = N.Reply (Close Done); table = three }))))) (0 ∷ 1 ∷ []) ≡ (Some 2 ∷ Some 1 ∷ []) ∷ (Some 2 ∷ None ∷ []) ∷ []
 way_row = refl

@@ -1,11 +1,11 @@
 -- What an installer has done at the end of its input.
-use Rattle.std.proofs.Common.{◌≡◌, ℕ, zero, suc, ◌+◌, inl, inr, ⊎_elim, Bool, true, false, nat_lt, ◌&&◌, cond, List, [], ◌∷◌, ◌++◌, length, map, IfSome, Option, None, Some, Result, Ok, Err, refl, sym, ap, ◌∙◌, subst, append-nil, arith}
+use Rattle.std.proofs.Common.{◌≡◌, ℕ, zero, suc, ◌+◌, inl, inr, ⊎_elim, Bool, true, false, cond, List, [], ◌∷◌, ◌++◌, map, IfSome, Option, None, Some, Result, Ok, Err, refl, sym, ap, ◌∙◌, subst, append-nil, arith}
 use Rattle.std.specs.Prelude.{MatchOption, OnOk}
 use Rattle.std.specs.Io.KnownBytes.{Appends, Consumes}
 use Rattle.std.proofs.KnownBytes.{Appends-trans, Consumes-whole}
 use Rattle.std.proofs.lemmas.Grind.{flat_map-append}
 use Rattle.std.specs.Option.{option_map_or}
-use Rattle.route_laws.specs.Runs.{Event, Told, Sync, Installer, MayAllCome, after_event, after_events, start}
+use Rattle.route_laws.specs.Runs.{Event, Installer, MayAllCome, after_event, after_events, start}
 use Rattle.route_laws.specs.Tables.{Route}
 use Rattle.route_lines.specs.Bytes.{lines}
 use Rattle.route_lines.specs.Lines.{line_of, lines_in}
@@ -19,10 +19,10 @@ use Rattle.route_feed.specs.declared.counted.Counted.{Counted}
 use Rattle.route_feed.specs.declared.error.RunError.{RunError}
 use Rattle.route_feed.specs.declared.error.RunError.TheVariants as Why
 use Rattle.route_feed.specs.Counted.{more_by, one_more}
-use Rattle.route_feed.specs.InnerInstalling.{AllFit, Fails, Takes, TakesNone, TakesNote, TakesNoteLine, Wants}
+use Rattle.route_feed.specs.InnerInstalling.{AllFit, Fails, Takes, TakesNone, TakesNote, TakesNoteLine}
 use Rattle.route_feed.specs.InnerLines.{update_line}
 use Rattle.route_feed.specs.InnerRun.{Runs, TakesAll}
-use Rattle.route_feed.specs.Installing.{AreNotes, Installing, IsUnfit, Noted, after_note, after_notes, batches, begin, committing, event_of, events, installed_bytes, printed_updates, route_to, update_lines}
+use Rattle.route_feed.specs.Installing.{AreNotes, Installing, IsUnfit, MayWant, Noted, after_note, after_notes, batches, begin, committing, event_of, events, installed_bytes, printed_updates, update_lines}
 use Rattle.route_feed.specs.Installs.{AppendsInstalled, Gives as GivesOutput, GivesThen, InstallEnds, Installs, Meets}
 use Rattle.route_feed.specs.Streams.{Change, closes, is_done}
 use Rattle.route_feed.specs.Devices.{Closed}
@@ -75,19 +75,14 @@ waits_plus (suc m) n w =
 -- the events of one note
 note_may : (a : Installing) (note : Note) (L : List Route) → AreInRange a.pending → NoteInRange note → AllFit a.tables (event_of a note L) → MayAllCome a.tables (event_of a note L)
 note_may a (N.Have net hop) L p q f = ((f.0, q.0, q.1), tt)
-note_may a N.Sync L p q f = let are = are_changes [] tt in ((are, f.0 are), tt)
+note_may a N.Sync L p q f = f
 note_may a (N.Reply line) L p q f = go (option_map_or is_done (closes line) false) f
   where
-    told : (cs : List Change) (b : Bool) → AreInRange cs → AllFit a.tables ((cond b (Sync (map route_to cs) L) (Told (map route_to cs))) ∷ [])
-        → MayAllCome a.tables ((cond b (Sync (map route_to cs) L) (Told (map route_to cs))) ∷ [])
-    told cs true r g = let are = are_changes cs r in ((are, g.0 are), tt)
-    told cs false r g = (are_changes cs r, tt)
-
-    all : (cs : List Change) → AreInRange cs → AllFit a.tables (committing a.tables.kept cs L) → MayAllCome a.tables (committing a.tables.kept cs L)
+    all : (cs : List Change) → AreInRange cs → AllFit a.tables (committing cs L) → MayAllCome a.tables (committing cs L)
     all [] r g = tt
-    all (c ∷ cs) r g = told (c ∷ cs) (a.tables.kept && nat_lt 256 (length (c ∷ cs))) r g
+    all (c ∷ cs) r g = ((are_changes (c ∷ cs) r, g.0), tt)
 
-    go : (d : Bool) → AllFit a.tables (cond d (committing a.tables.kept a.pending L) []) → MayAllCome a.tables (cond d (committing a.tables.kept a.pending L) [])
+    go : (d : Bool) → AllFit a.tables (cond d (committing a.pending L) []) → MayAllCome a.tables (cond d (committing a.pending L) [])
     go true g = all a.pending p g
     go false g = tt
 
@@ -118,17 +113,17 @@ all_may a ps [] r s f = tt
 all_may a [] (n ∷ ns) r s f = absurd s
 all_may a (p ∷ ps) (n ∷ ns) r s f =
     let q = note_in_range p n.note s.0 in
-    let es = event_of a n.note n.least in
+    let es = event_of a n.note n.table in
     let later = events (after_note a n) ns in
     may-append a.tables es later
-    (note_may a n.note n.least r q (fit-front a.tables es later f))
+    (note_may a n.note n.table r q (fit-front a.tables es later f))
     (all_may (after_note a n) ps ns (past_in_range a.pending n.note r q) s.1 (fit-back a.tables es later f))
 
 -- notes that are taken may come, and so may one more
 are_notes : (ps : List (List ℕ)) (ns : List Noted) → AreSpelled ps ns → AllFit start (events begin ns) → AreNotes ps ns
 are_notes ps ns s f = record { spelled = spelled_map ps ns s; may = all_may begin ps ns tt s f }
 
-are_notes_too : (ps : List (List ℕ)) (p : List ℕ) (ns : List Noted) (n : Noted) → AreSpelled ps ns → AllFit start (events begin ns) → note_of p ≡ Some n.note → AllFit (after_notes begin ns).tables (event_of (after_notes begin ns) n.note n.least)
+are_notes_too : (ps : List (List ℕ)) (p : List ℕ) (ns : List Noted) (n : Noted) → AreSpelled ps ns → AllFit start (events begin ns) → note_of p ≡ Some n.note → AllFit (after_notes begin ns).tables (event_of (after_notes begin ns) n.note n.table)
     → AreNotes (ps ++ p ∷ []) (ns ++ n ∷ [])
 unfolding AreSpelled
 are_notes_too ps p ns n s f e g =
@@ -136,7 +131,7 @@ are_notes_too ps p ns n s f e g =
     (subst (AllFit start) (sym (events-append begin ns (n ∷ [])))
     (fit-append start (events begin ns) (events (after_notes begin ns) (n ∷ [])) f
     (subst (λ t. AllFit t (events (after_notes begin ns) (n ∷ []))) (tables_after begin ns)
-    (subst (AllFit (after_notes begin ns).tables) (sym (append-nil (event_of (after_notes begin ns) n.note n.least))) g))))
+    (subst (AllFit (after_notes begin ns).tables) (sym (append-nil (event_of (after_notes begin ns) n.note n.table))) g))))
 
 -- ---- notes after notes
 
@@ -163,7 +158,7 @@ module _ {W : Type 0} (contents : W → Option (List ℕ)) where
       → TakesPieces a c (p ∷ ps) (n ∷ ns) old new
   unfolding AreSpelled
   pieces-more a b c p ps n ns old mid new e t later =
-      let es = event_of a n.note n.least in
+      let es = event_of a n.note n.table in
       let rest = events (after_note a n) ns in
       let l = subst (λ s. TakesPieces s c ps ns mid new) t.next later in
       record {
@@ -185,7 +180,7 @@ module _ {W : Type 0} (contents : W → Option (List ℕ)) where
     where
       go : (o : Option Note) → note_of p ≡ o → MatchOption o (TakesNone contents old (Ok tt) new) (λ note. TakesNote contents a note old (Ok tt) b new) → (n : Noted) × (note_of p ≡ Some n.note) × Takes contents a b n old new
       go None e m = absurd (let f = m.0 in cc)
-      go (Some note) e m = (record { note = note; least = m.0 }, e, m.1)
+      go (Some note) e m = (record { note = note; table = m.0 }, e, m.1)
 
   -- all were
   all_taken : (a b : Installing) (ps : List (List ℕ)) (old new : Counted W) → TakesLines a (map line_of ps) old (Ok tt) b new → (ns : List Noted) × TakesPieces a b ps ns old new
@@ -267,13 +262,13 @@ module _ {W : Type 0} (contents : W → Option (List ℕ)) (c last : Installing)
   unfit None w = (tt, w.1)
   unfit (Some note) w = w
 
-  wanting : (o : Option Note) → Why_not Why.Memory o → (note : Note) × (o ≡ Some note) × Wants contents c note mid new
+  wanting : (o : Option Note) → Why_not Why.Memory o → (note : Note) × (o ≡ Some note) × MayWant c note × (new ≡ mid)
   wanting None w = absurd (let e = w.0 in cc)
   wanting (Some note) w = (note, refl, w)
 
   failing : (o : Option Note) → Why_not Why.Write o → (n : Noted) × (o ≡ Some n.note) × Fails contents c n mid new
   failing None w = absurd (let e = w.0 in cc)
-  failing (Some note) w = (record { note = note; least = w.0 }, refl, w.1)
+  failing (Some note) w = (record { note = note; table = w.0 }, refl, w.1)
 
   never : (o : Option Note) → Why_not Why.Read o → ⊥
   never None w = let e = w.0 in cc
@@ -310,15 +305,12 @@ module _ {R W : Type 0} (remaining : R → Option (List ℕ)) (contents : W → 
           record {
             meets = meets Why.Memory s;
             note = note;
-            begun = w.begun;
-            missing = w.missing;
             is_note = is;
-            wants = w.may_want;
-            is_front = w.is_front;
-            gives = gives_then contents c s.before s.notes w.begun old s.mid new s.taken w.written.appended w.written.flushes;
+            wants = w.0;
+            gives = subst (GivesOutput contents s.notes old) (sym w.1) (gives_output contents c s.before s.notes old s.mid s.taken);
           },
           none_read,
-          w.written.faults ∙ s.taken.closed.faults,
+          ap (λ v. v.faults) w.1 ∙ s.taken.closed.faults,
         )
     line_ends Why.Write s =
         let c = after_notes begin s.notes in

@@ -1,37 +1,30 @@
 -- What is installed has the hops of the leader, turns no address twice, and is least after a `sync`.
-use Rattle.std.proofs.Common.{◌≡◌, ◌<◌, ◌⊎◌, ℕ, Bool, true, false, cond, nat_lt, length, List, [], ◌∷◌, ◌++◌, map, take, None, inl, inr, ⊎_elim, refl, sym, ap, ◌∙◌, subst, arith, append_assoc, append-nil}
-use Rattle.std.specs.Prelude.{◌&&◌}
-use Rattle.std.proofs.lemmas.Bool.Decides.{nat_tests}
+use Rattle.std.proofs.Common.{◌≡◌, ◌⊎◌, ℕ, Bool, true, false, cond, List, Option, [], ◌∷◌, ◌++◌, map, take, None, inl, inr, ⊎_elim, refl, sym, ap, ◌∙◌, subst, arith, append_assoc, append-nil}
 use Rattle.std.specs.Option.{option_map_or}
 use Rattle.ipnet_addr.specs.Addresses.{Address, IsAddress}
-use Rattle.ipnet_addr.proofs.Ascending.{Rising, pairs_from_Rising}
 use Rattle.ipnet.specs.declared.ip_net.IpNet.{IpNet}
 use Rattle.route_choices.specs.Choices.{default_preference}
 use Rattle.route_choices.specs.declared.hop.Hop.{Hop}
-use Rattle.route_choices.proofs.Kept.{In-map}
 use Rattle.route_lines.specs.declared.note.Note.{Note}
 use Rattle.route_lines.specs.declared.note.Note.TheVariants as N
 use Rattle.route_lines.specs.declared.reply.Closing.TheVariants.{Done, Missing, Bad, Refused}
 use Rattle.route_lines.specs.declared.reply.Reply.{Reply}
 use Rattle.route_lines.specs.declared.reply.Reply.TheVariants as R
-use Rattle.route_laws.specs.Batches.{AreApart}
 use Rattle.route_laws.specs.LeastTables.{IsLeast}
+use Rattle.route_laws.specs.Nearest.{IsFewestTo}
 use Rattle.route_laws.specs.Networks.{routes_of}
-use Rattle.route_laws.specs.Operations.{IsHitless, after_all}
-use Rattle.route_laws.specs.Runs.{Event, Have, Told, Sync, Installer, IsApart, IsMade, MayAllCome, after_event, after_events, given, gives, start, told}
-use Rattle.route_laws.specs.Tables.{Route, hop_at, route_of}
-use Rattle.route_laws.proofs.Batches as batch
+use Rattle.route_laws.specs.Operations.{IsHitless, Operation, after_all}
+use Rattle.route_laws.specs.Runs.{Event, Have, Told, Sync, Installer, IsMade, MayAllCome, after_event, after_events, given, gives, start, told}
+use Rattle.route_laws.specs.Tables.{Route, IsTable, hop_at, route_of}
 use Rattle.route_laws.proofs.Families.{least_too}
-use Rattle.route_laws.proofs.Runs.{gives_hitless, gives_what_it_says, given_reaches, keeps_hops, sync_is_least}
+use Rattle.route_laws.proofs.Runs.{Holds, holds, gives_hitless, gives_what_it_says, given_reaches, keeps_hops, sync_is_least, sync_stays, told_is_fewest}
 use Rattle.route_laws.proofs.Turning.{hitless_from}
 use Rattle.route_feed.specs.Installing.{Installing, Noted, after_note, after_notes, begin, committing, event_of, events, route_to}
-use Rattle.route_feed.specs.InstallLaws.{AreFirst, InstalledAgrees, InstalledAtAllTimes, InstalledIsHitless, IsNoHave, LargeRepliesAreLeast, OperationsReach, SyncsAreLeast, installed_by, operations_at, replies_of, table_by}
+use Rattle.route_feed.specs.InstallLaws.{AreFirst, HasSync, InstalledAgrees, InstalledAtAllTimes, InstalledIsHitless, IsNoHave, OperationsReach, RepliesAreFewest, SyncsAreLeast, SyncsStay, installed_by, operations_at, replies_of, table_by}
 use Rattle.route_feed.specs.Streams.{Change, closes, committed, ends_well, painted, is_done}
-use Rattle.route_feed.proofs.Apart.{waiting_apart}
 use Rattle.route_feed.proofs.Beginnings.{all_in_range, commands_of, empty_is_table, followed, output_read}
-use Rattle.route_feed.proofs.NotesInTurn.{after_events-append, events-append, is_kept, kept_later, may_split, pending_after_notes, replies_of-append, tables_after}
+use Rattle.route_feed.proofs.NotesInTurn.{after_events-append, events-append, is_kept, kept_later, may_split, replies_of-append, tables_after}
 use Rattle.route_feed.proofs.ToldNotes.{committed_from, told_notes}
-use Rattle.route_feed.proofs.Seam.{Apart}
 
 -- ---- the hops
 
@@ -65,13 +58,9 @@ installed_agrees bytes refusals ns first may has x a = kept_agrees bytes refusal
 abbrev pub AtMostOne : (Event → Type 0) → List Event → Type 0
 AtMostOne P es = (es ≡ []) ⊎ ((e : Event) × (es ≡ e ∷ []) × P e)
 
-committing_is : (P : Event → Type 0) (kept : Bool) (cs : List Change) (M : List Route) → P (Told (map route_to cs)) → P (Sync (map route_to cs) M) → AtMostOne P (committing kept cs M)
-committing_is P kept [] M told synced = inl refl
-committing_is P kept (c ∷ cs) M told synced = go (kept && nat_lt 256 (length (c ∷ cs)))
-  where
-    go : (b : Bool) → AtMostOne P (cond b (Sync (map route_to (c ∷ cs)) M) (Told (map route_to (c ∷ cs))) ∷ [])
-    go true = inr (Sync (map route_to (c ∷ cs)) M, refl, synced)
-    go false = inr (Told (map route_to (c ∷ cs)), refl, told)
+committing_is : (P : Event → Type 0) (cs : List Change) (M : List Route) → P (Told (map route_to cs) M) → AtMostOne P (committing cs M)
+committing_is P [] M told = inl refl
+committing_is P (c ∷ cs) M told = inr (Told (map route_to (c ∷ cs)) M, refl, told)
 
 -- a line is `ok`, or commits nothing
 ok_or_quiet : (line : Reply) → (line ≡ R.Close Done) ⊎ (option_map_or is_done (closes line) false ≡ false)
@@ -88,27 +77,17 @@ ok_or_quiet (R.Close Refused) = inr refl
 
 -- what holds of the event of a note, which is one at most
 module _ (P : Event → Type 0) (s : Installing) (M : List Route) where
-  event_is : (note : Note) → ((net : IpNet) (hop : Hop) → note ≡ N.Have net hop → P (Have (route_of net hop default_preference))) → P (Sync [] M)
-      → (note ≡ N.Reply (R.Close Done) → P (Told (map route_to s.pending)) × P (Sync (map route_to s.pending) M)) → AtMostOne P (event_of s note M)
+  event_is : (note : Note) → ((net : IpNet) (hop : Hop) → note ≡ N.Have net hop → P (Have (route_of net hop default_preference))) → P (Sync M)
+      → (note ≡ N.Reply (R.Close Done) → P (Told (map route_to s.pending) M)) → AtMostOne P (event_of s note M)
   event_is (N.Have net hop) have sync ok = inr (Have (route_of net hop default_preference), refl, have net hop refl)
-  event_is N.Sync have sync ok = inr (Sync [] M, refl, sync)
+  event_is N.Sync have sync ok = inr (Sync M, refl, sync)
   event_is (N.Reply line) have sync ok = ⊎_elim
-      (λ e. let t = ok (ap N.Reply e) in subst (λ l. AtMostOne P (event_of s (N.Reply l) M)) (sym e) (committing_is P s.tables.kept s.pending M t.0 t.1))
-      (λ e. inl (ap (λ b. cond b (committing s.tables.kept s.pending M) []) e))
+      (λ e. subst (λ l. AtMostOne P (event_of s (N.Reply l) M)) (sym e) (committing_is P s.pending M (ok (ap N.Reply e))))
+      (λ e. inl (ap (λ b. cond b (committing s.pending M) []) e))
       (ok_or_quiet line)
 
 pub one_event : (s : Installing) (note : Note) (M : List Route) → AtMostOne (λ e. Unit {0}) (event_of s note M)
-one_event s note M = event_is (λ e. Unit {0}) s M note (λ net hop e. tt) tt (λ e. (tt, tt))
-
-event_apart : (s : Installing) (note : Note) (M : List Route) → (note ≡ N.Reply (R.Close Done) → AreApart (map route_to s.pending)) → AtMostOne IsApart (event_of s note M)
-event_apart s note M h = event_is IsApart s M note (λ net hop e. tt) tt (λ e. (h e, tt))
-
-routes_apart : (cs : List Change) → Rising Apart cs → Rising batch.Apart (map route_to cs)
-routes_apart [] u = tt
-routes_apart (c ∷ cs) u = (
-  (λ r i. let t = In-map route_to cs r i in subst (λ (s : Route). batch.Apart (route_to c) s) (sym t.2) (u.0 t.0 t.1)),
-  routes_apart cs u.1,
-)
+one_event s note M = event_is (λ e. Unit {0}) s M note (λ net hop e. tt) tt (λ e. tt)
 
 module _ (ns later : List Noted) (n : Noted) where
   abbrev es : List Event
@@ -118,7 +97,7 @@ module _ (ns later : List Noted) (n : Noted) where
   at = after_notes begin ns
 
   abbrev now : List Event
-  now = event_of at n.note n.least
+  now = event_of at n.note n.table
 
   whole : events begin (ns ++ n ∷ later) ≡ (es ++ now) ++ events (after_note at n) later
   whole = events-append begin ns (n ∷ later) ∙ sym (append_assoc es now (events (after_note at n) later))
@@ -134,27 +113,15 @@ module _ (ns later : List Noted) (n : Noted) where
     given_one e is =
         ap (given at.tables) is ∙ append-nil (gives at.tables e) ∙ ap (λ T. gives T e) (tables_after begin ns)
 
-    hitless_at : AtMostOne IsApart now → IsHitless (installed_by ns) (operations_at ns n)
+    hitless_at : AtMostOne (λ e. Unit {0}) now → IsHitless (installed_by ns) (operations_at ns n)
     hitless_at (inl none) = subst (IsHitless (installed_by ns)) (sym (ap (given at.tables) none)) (hitless_from (installed_by ns) [] (λ x a. (hop_at (installed_by ns) x, refl)))
-    hitless_at (inr (e, is, apart)) =
+    hitless_at (inr (e, is, any)) =
         subst (IsHitless (installed_by ns)) (sym (given_one e is))
         (subst (λ M. IsHitless M (gives (after_events start es) e)) (sym (given_reaches es may_before))
-        (gives_hitless es e (subst (λ fs. MayAllCome start (es ++ fs)) is may_now) apart))
-
--- where the note is an `ok` of the leader, the changes that wait have no address in common
-ok_apart : (bytes : List ℕ) (refusals : List Bool) (ns later : List Noted) (n : Noted) → AreFirst bytes refusals (replies_of (ns ++ n ∷ later))
-    → n.note ≡ N.Reply (R.Close Done) → AreApart (map route_to (Installing.pending (after_notes begin ns)))
-ok_apart bytes refusals ns later n first is =
-    let (more, split) = first in
-    let ok : replies_of (n ∷ later) ≡ R.Close Done ∷ replies_of later = ap (λ (note : Note). replies_of (record { note = note; least = n.least } ∷ later)) is in
-    let lines = split ∙ ap (λ ls. ls ++ more) (replies_of-append ns (n ∷ later) ∙ ap (λ ls. replies_of ns ++ ls) ok) ∙ append_assoc (replies_of ns) (R.Close Done ∷ replies_of later) more in
-    pairs_from_Rising batch.Apart (map route_to (Installing.pending (after_notes begin ns)))
-    (routes_apart (Installing.pending (after_notes begin ns))
-    (subst (Rising Apart) (sym (pending_after_notes begin ns)) (waiting_apart bytes refusals (replies_of ns) (replies_of later ++ more) lines)))
+        (gives_hitless es e (subst (λ fs. MayAllCome start (es ++ fs)) is may_now)))
 
 pub installed_is_hitless : InstalledIsHitless
-installed_is_hitless bytes refusals ns later n first may =
-    hitless_at ns later n may (event_apart (after_notes begin ns) n.note n.least (ok_apart bytes refusals ns later n first))
+installed_is_hitless ns n may = hitless_at ns [] n may (one_event (after_notes begin ns) n.note n.table)
 
 -- ---- what is installed after a note
 
@@ -164,11 +131,11 @@ IsNoRoute e = (r : Route) → e ≡ Have r → ⊥
 
 made_is_installed : (s : Installer) (e : Event) → IsNoRoute e → IsMade s e → after_all s.installed (gives s e) ≡ Installer.installed (after_event s e)
 made_is_installed s (Have r) other made = absurd (other r refl)
-made_is_installed s (Told rs) other made = made
-made_is_installed s (Sync rs N) other made = made
+made_is_installed s (Told rs N) other made = made
+made_is_installed s (Sync N) other made = made
 
 no_route : (s : Installing) (note : Note) (M : List Route) → IsNoHave note → AtMostOne IsNoRoute (event_of s note M)
-no_route s note M other = event_is IsNoRoute s M note (λ net hop e. absurd (other net hop e)) (λ r e. cc) (λ e. ((λ r f. cc), (λ r f. cc)))
+no_route s note M other = event_is IsNoRoute s M note (λ net hop e. absurd (other net hop e)) (λ r e. cc) (λ e r f. cc)
 
 module _ (ns : List Noted) (n : Noted) (may : MayAllCome start (events begin (ns ++ n ∷ []))) where
   reach_at : AtMostOne IsNoRoute (now ns [] n) → after_all (Installer.installed (after_events start (es ns [] n))) (operations_at ns n) ≡ Installer.installed (after_events start (es ns [] n ++ now ns [] n))
@@ -184,7 +151,7 @@ module _ (ns : List Noted) (n : Noted) (may : MayAllCome start (events begin (ns
 pub operations_reach : OperationsReach
 operations_reach ns n may other =
     ap (λ M. after_all M (operations_at ns n)) (given_reaches (events begin ns) (may_before ns [] n may))
-    ∙ reach_at ns n may (no_route (after_notes begin ns) n.note n.least other)
+    ∙ reach_at ns n may (no_route (after_notes begin ns) n.note n.table other)
     ∙ ap (λ fs. Installer.installed (after_events start fs)) (sym (whole ns [] n ∙ append-nil (es ns [] n ++ now ns [] n)))
     ∙ sym (given_reaches (events begin (ns ++ n ∷ [])) may)
 
@@ -199,7 +166,7 @@ first_too bytes refusals ns later first =
 kept_no_have : (ns : List Noted) (n : Noted) → MayAllCome start (events begin (ns ++ n ∷ [])) → Installer.kept (after_events start (events begin ns)) ≡ true → IsNoHave n.note
 kept_no_have ns n may kept net hop e =
     let m = (may_split start (es ns [] n) (now ns [] n) (may_now ns [] n may)).1 in
-    let k = (subst (λ (note : Note). MayAllCome (after_events start (es ns [] n)) (event_of (at ns [] n) note n.least)) e m).0.0 in
+    let k = (subst (λ (note : Note). MayAllCome (after_events start (es ns [] n)) (event_of (at ns [] n) note n.table)) e m).0.0 in
     let both = sym k ∙ kept in
     cc
 
@@ -215,40 +182,79 @@ module _ (bytes : List ℕ) (refusals : List Bool) (ns later : List Noted) (n : 
       ⊎_elim
       (λ e. inl (e ∙ kept_agrees bytes refusals ns t (may_before ns later n may) kept x a))
       (λ e. inr (e ∙ ap (λ M. hop_at M x) (operations_reach ns n m (kept_no_have ns n m kept)) ∙ kept_agrees bytes refusals (ns ++ n ∷ []) u m still x a))
-      (IsHitless.turns (installed_is_hitless bytes refusals ns later n first may) x a i i (omega arith))
+      (IsHitless.turns (installed_is_hitless ns n m) x a i i (omega arith))
 
 pub installed_at_all_times : InstalledAtAllTimes
 installed_at_all_times bytes refusals ns later n first may has x a i = kept_at_all_times bytes refusals ns later n first may (is_kept ns has) x a i
 
 -- ---- after a `sync`
 
--- after notes whose last event asks for a least table
-asked_is_least : (ns : List Noted) (n : Noted) (rs N : List Route) → event_of (after_notes begin ns) n.note n.least ≡ Sync rs N ∷ [] → MayAllCome start (events begin (ns ++ n ∷ []))
-    → IsLeast (painted (committed (replies_of (ns ++ n ∷ [])))) (installed_by (ns ++ n ∷ []))
-asked_is_least ns n rs N is may =
-    let log = ns ++ n ∷ [] in
-    let split : events begin log ≡ events begin ns ++ Sync rs N ∷ [] = events-append begin ns (n ∷ []) ∙ ap (λ fs. events begin ns ++ fs) (append-nil (event_of (after_notes begin ns) n.note n.least) ∙ is) in
-    subst (IsLeast (painted (committed (replies_of log)))) (sym (given_reaches (events begin log) may))
-    (least_too (told None (events begin log)) (painted (committed (replies_of log))) (λ x a. told_is_committed log x) _
-    (subst (λ fs. IsLeast (told None fs) (Installer.installed (after_events start fs))) (sym split)
-    (sync_is_least (events begin ns) rs N (subst (MayAllCome start) split may))))
-
 pub syncs_are_least : SyncsAreLeast
 syncs_are_least ns least may =
-    let n : Noted = record { note = N.Sync; least = least } in
-    subst (λ ls. IsLeast (painted (committed ls)) (installed_by (ns ++ n ∷ []))) (replies_of-append ns (n ∷ []) ∙ append-nil (replies_of ns))
-    (asked_is_least ns n [] least refl may)
+    let n : Noted = record { note = N.Sync; table = least } in
+    let log = ns ++ n ∷ [] in
+    let split : events begin log ≡ events begin ns ++ Sync least ∷ [] = events-append begin ns (n ∷ []) in
+    let before = may_before ns [] n may in
+    subst (IsLeast (painted (committed (replies_of ns)))) (sym (given_reaches (events begin log) may))
+    (least_too (told None (events begin ns)) (painted (committed (replies_of ns))) (λ x a. told_is_committed ns x) _
+    (subst (λ fs. IsLeast (told None (events begin ns)) (Installer.installed (after_events start fs))) (sym split)
+    (sync_is_least (events begin ns) least (subst (MayAllCome start) split may))))
 
-many_asked : (kept : Bool) (cs : List Change) (M : List Route) → kept ≡ true → 256 < length cs → committing kept cs M ≡ Sync (map route_to cs) M ∷ []
-many_asked kept [] M k many = absurd (omega arith)
-many_asked kept (c ∷ cs) M k many =
-    let more : nat_lt 256 (length (c ∷ cs)) ≡ true = grind (arith, nat_tests) in
-    ap (λ b. cond (b && nat_lt 256 (length (c ∷ cs))) (Sync (map route_to (c ∷ cs)) M) (Told (map route_to (c ∷ cs))) ∷ []) k
-    ∙ ap (λ b. cond b (Sync (map route_to (c ∷ cs)) M) (Told (map route_to (c ∷ cs))) ∷ []) more
+pub syncs_stay : SyncsStay
+syncs_stay ns least may has is =
+    let n : Noted = record { note = N.Sync; table = least } in
+    let es = events begin ns in
+    let before = may_before ns [] n may in
+    given_one ns [] n may (Sync least) refl
+    ∙ sync_stays es least (may_now ns [] n may) (is_kept ns has)
+    (least_too (painted (committed (replies_of ns))) (told None es) (λ x a. sym (told_is_committed ns x)) (Installer.installed (after_events start es))
+    (subst (IsLeast (painted (committed (replies_of ns)))) (given_reaches es before) is))
 
-pub large_replies_are_least : LargeRepliesAreLeast
-large_replies_are_least ns least may has many =
-    let n : Noted = record { note = N.Reply (R.Close Done); least = least } in
+-- ---- at an `ok`
+
+-- the same hops take the same operations
+fewest_too : (M : List Route) (g h : Address → Option ℕ) → ((x : Address) → IsAddress x → g x ≡ h x) → (os : List Operation) → IsFewestTo M g os → IsFewestTo M h os
+fewest_too M g h same os f = record {
+  hops = record { table = f.hops.table; same = λ x a. f.hops.same x a ∙ same x a };
+  fewest = λ L l. f.fewest L (record { table = l.table; same = λ x a. l.same x a ∙ sym (same x a) });
+}
+
+module _ (ns : List Noted) (nearest : List Route) (may : MayAllCome start (events begin (ns ++ record { note = N.Reply (R.Close Done); table = nearest } ∷ []))) (has : HasSync ns) where
+  abbrev ok : Noted
+  ok = record { note = N.Reply (R.Close Done); table = nearest }
+
+  abbrev log : List Noted
+  log = ns ++ ok ∷ []
+
+  log_is : events begin log ≡ es ns [] ok ++ now ns [] ok
+  log_is = whole ns [] ok ∙ append-nil (es ns [] ok ++ now ns [] ok)
+
+  told_in_log : (fs : List Event) → now ns [] ok ≡ fs → (x : Address) → told None (es ns [] ok ++ fs) x ≡ painted (committed (replies_of log)) x
+  told_in_log fs is x = sym (ap (λ gs. told None gs x) (log_is ∙ ap (λ gs. es ns [] ok ++ gs) is)) ∙ told_is_committed log x
+
+  fewest_at : AtMostOne (λ e. (rs : List Route) × (e ≡ Told rs nearest)) (now ns [] ok) → IsFewestTo (installed_by ns) (painted (committed (replies_of log))) (operations_at ns ok)
+  fewest_at (inl none) =
+      let before = may_before ns [] ok may in
+      subst (IsFewestTo (installed_by ns) (painted (committed (replies_of log)))) (sym (ap (given (Installing.tables (after_notes begin ns))) none))
+      (record {
+        hops = record {
+          table = subst IsTable (sym (given_reaches (es ns [] ok) before)) (Holds.installed (holds (es ns [] ok) before));
+          same = λ x a.
+              ap (λ M. hop_at M x) (given_reaches (es ns [] ok) before) ∙ keeps_hops (es ns [] ok) before (is_kept ns has) x a
+              ∙ ap (λ fs. told None fs x) (sym (append-nil (es ns [] ok))) ∙ told_in_log [] none x;
+        };
+        fewest = λ L l. omega arith;
+      })
+  fewest_at (inr (e, is, told_these)) =
+      let (rs, same_event) = told_these in
+      let same = is ∙ ap (λ d. d ∷ []) same_event in
+      let m = subst (λ fs. MayAllCome start (es ns [] ok ++ fs)) same (may_now ns [] ok may) in
+      subst (IsFewestTo (installed_by ns) (painted (committed (replies_of log)))) (sym (given_one ns [] ok may (Told rs nearest) same))
+      (subst (λ M. IsFewestTo M (painted (committed (replies_of log))) (gives (after_events start (es ns [] ok)) (Told rs nearest))) (sym (given_reaches (es ns [] ok) (may_before ns [] ok may)))
+      (fewest_too (Installer.installed (after_events start (es ns [] ok))) (told None (es ns [] ok ++ Told rs nearest ∷ [])) (painted (committed (replies_of log))) (λ x a. told_in_log (Told rs nearest ∷ []) same x) _
+      (told_is_fewest (es ns [] ok) rs nearest m (is_kept ns has))))
+
+pub replies_are_fewest : RepliesAreFewest
+replies_are_fewest ns nearest may has =
     let s = after_notes begin ns in
-    asked_is_least ns n (map route_to s.pending) least
-    (many_asked s.tables.kept s.pending least (ap Installer.kept (tables_after begin ns) ∙ is_kept ns has) (subst (λ (cs : List Change). 256 < length cs) (sym (pending_after_notes begin ns)) many)) may
+    fewest_at ns nearest may has (committing_is (λ e. (rs : List Route) × (e ≡ Told rs nearest)) s.pending nearest (map route_to s.pending, refl))

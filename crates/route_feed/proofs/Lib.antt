@@ -17,7 +17,6 @@ pub mod Reread
 pub mod SameBytes
 pub mod Replies
 pub mod Beginnings
-pub mod Apart
 pub mod Grammar
 pub mod Rebuilt
 pub mod Restarted

@@ -6,8 +6,7 @@ use Rattle.ipnet_addr.proofs.Ascending.{In-from_Any}
 use Rattle.route_lines.specs.declared.note.Note.{Note}
 use Rattle.route_lines.specs.declared.note.Note.TheVariants as N
 use Rattle.route_laws.specs.Runs.{Event, Have, Told, Sync, Installer, MayAllCome, after_event, after_events, start}
-use Rattle.route_feed.specs.Streams.{pending_over}
-use Rattle.route_feed.specs.Installing.{Installing, Noted, after_note, after_notes, begin, event_lines, event_of, events, pending_past, update_lines}
+use Rattle.route_feed.specs.Installing.{Installing, Noted, after_note, after_notes, begin, event_lines, event_of, events, update_lines}
 use Rattle.route_feed.proofs.InTurn.{after-append, made-append}
 use Rattle.route_feed.specs.InstallLaws.{HasSync, replies_of, reply_in}
 
@@ -23,22 +22,12 @@ may_split s [] fs m = (tt, m)
 may_split s (e ∷ es) fs m = let t = may_split (after_event s e) es fs m.1 in ((m.0, t.0), t.1)
 
 pub events-append : (s : Installing) (ns ms : List Noted) → events s (ns ++ ms) ≡ events s ns ++ events (after_notes s ns) ms
-events-append = made-append after_note after_notes (λ s. refl) (λ s e es. refl) (λ s n. event_of s n.note n.least) events (λ s. refl) (λ s e es. refl)
+events-append = made-append after_note after_notes (λ s. refl) (λ s e es. refl) (λ s n. event_of s n.note n.table) events (λ s. refl) (λ s e es. refl)
 
 -- the tables after notes are those after their events
 pub tables_after : (s : Installing) (ns : List Noted) → Installing.tables (after_notes s ns) ≡ after_events s.tables (events s ns)
 tables_after s [] = refl
-tables_after s (n ∷ ns) = tables_after (after_note s n) ns ∙ sym (after_events-append s.tables (event_of s n.note n.least) (events (after_note s n) ns))
-
--- the changes that wait after notes are those of their reply lines
-pub pending_after_notes : (s : Installing) (ns : List Noted) → Installing.pending (after_notes s ns) ≡ pending_over s.pending (replies_of ns)
-pending_after_notes s [] = refl
-pending_after_notes s (n ∷ ns) = pending_after_notes (after_note s n) ns ∙ go n.note
-  where
-    go : (note : Note) → pending_over (pending_past s.pending note) (replies_of ns) ≡ pending_over s.pending (replies_of (record { note = note; least = n.least } ∷ ns))
-    go (N.Have net hop) = refl
-    go N.Sync = refl
-    go (N.Reply line) = refl
+tables_after s (n ∷ ns) = tables_after (after_note s n) ns ∙ sym (after_events-append s.tables (event_of s n.note n.table) (events (after_note s n) ns))
 
 pub replies_of-append : (ns ms : List Noted) → replies_of (ns ++ ms) ≡ replies_of ns ++ replies_of ms
 replies_of-append ns ms = filter_map-append (λ (n : Noted). reply_in n.note) ns ms
@@ -48,8 +37,8 @@ replies_of-append ns ms = filter_map-append (λ (n : Noted). reply_in n.note) ns
 pub kept_stays : (es : List Event) (s : Installer) → s.kept ≡ true → Installer.kept (after_events s es) ≡ true
 kept_stays [] s k = k
 kept_stays (Have r ∷ es) s k = kept_stays es (after_event s (Have r)) k
-kept_stays (Told rs ∷ es) s k = kept_stays es (after_event s (Told rs)) k
-kept_stays (Sync rs N ∷ es) s k = kept_stays es (after_event s (Sync rs N)) refl
+kept_stays (Told rs N ∷ es) s k = kept_stays es (after_event s (Told rs N)) k
+kept_stays (Sync N ∷ es) s k = kept_stays es (after_event s (Sync N)) refl
 
 pub kept_later : (s : Installer) (es fs : List Event) → Installer.kept (after_events s es) ≡ true → Installer.kept (after_events s (es ++ fs)) ≡ true
 kept_later s es fs k = ap Installer.kept (after_events-append s es fs) ∙ kept_stays fs (after_events s es) k
@@ -57,10 +46,10 @@ kept_later s es fs k = ap Installer.kept (after_events-append s es fs) ∙ kept_
 sync_keeps : (ns : List Noted) (s : Installing) (n : Noted) → In n ns → n.note ≡ N.Sync → Installer.kept (after_events s.tables (events s ns)) ≡ true
 sync_keeps [] s n i e = absurd i
 sync_keeps (m ∷ ns) s n (inl same) e =
-    let is : event_of s m.note m.least ≡ Sync [] m.least ∷ [] = ap (λ (note : Note). event_of s note m.least) (sym (ap Noted.note same) ∙ e) in
+    let is : event_of s m.note m.table ≡ Sync m.table ∷ [] = ap (λ (note : Note). event_of s note m.table) (sym (ap Noted.note same) ∙ e) in
     subst (λ es. Installer.kept (after_events s.tables (es ++ events (after_note s m) ns)) ≡ true) (sym is) (kept_stays (events (after_note s m) ns) _ refl)
 sync_keeps (m ∷ ns) s n (inr i) e =
-    ap Installer.kept (after_events-append s.tables (event_of s m.note m.least) (events (after_note s m) ns)) ∙ sync_keeps ns (after_note s m) n i e
+    ap Installer.kept (after_events-append s.tables (event_of s m.note m.table) (events (after_note s m) ns)) ∙ sync_keeps ns (after_note s m) n i e
 
 pub is_kept : (ns : List Noted) → HasSync ns → Installer.kept (after_events start (events begin ns)) ≡ true
 is_kept ns h = let t = In-from_Any (λ (n : Noted). n.note ≡ N.Sync) ns h in sync_keeps ns begin t.0 t.1 t.2

@@ -56,12 +56,12 @@ seven = record { block = ten; hop = Number 7; pref = 100 }
 -- `have 10.0.0.0/8 1`, `set 10.0.0.0/8 7`, `ok`, `sync`, `unset 10.0.0.0/8`, `ok`
 abbrev session : List Noted
 session =
-    record { note = N.Have (network_at ten) (Number 1); least = [] }
-    ∷ record { note = N.Reply (R.Set (network_at ten) 7); least = [] }
-    ∷ record { note = N.Reply (R.Close Done); least = [] }
-    ∷ record { note = N.Sync; least = seven ∷ [] }
-    ∷ record { note = N.Reply (R.Unset (network_at ten)); least = [] }
-    ∷ record { note = N.Reply (R.Close Done); least = [] }
+    record { note = N.Have (network_at ten) (Number 1); table = [] }
+    ∷ record { note = N.Reply (R.Set (network_at ten) 7); table = [] }
+    ∷ record { note = N.Reply (R.Close Done); table = [] }
+    ∷ record { note = N.Sync; table = seven ∷ [] }
+    ∷ record { note = N.Reply (R.Unset (network_at ten)); table = [] }
+    ∷ record { note = N.Reply (R.Close Done); table = [] }
     ∷ []
 
 session_row : installed_bytes session ≡ codes "install 10.0.0.0/8 7\nok\nremove 10.0.0.0/8\nok\n"

@@ -15,13 +15,10 @@ use Rattle.route_lines.specs.Texts.{IsUpdate, update_text}
 use Rattle.route_lines.specs.declared.update.Update.{Update}
 use Rattle.route_lines.specs.declared.update.Update.TheVariants as U
 use Rattle.route_lines.proofs.Updates.{updates, prints}
-use Rattle.route_laws.specs.Batches.{batch, painted}
 use Rattle.route_laws.specs.Operations.{Operation, Install, Remove, between, missing, surplus}
 use Rattle.route_laws.specs.Runs.{Event, Have, Told, Sync, Installer, MayCome, MayAllCome, after_event, after_events, gives, start}
 use Rattle.route_laws.specs.Tables.{Route, IsTable}
-use Rattle.route_laws.proofs.Batches.{Changes, changes_from}
 use Rattle.route_laws.proofs.Between.{reverse_In}
-use Rattle.route_laws.proofs.Painted.{painted_is_table}
 use Rattle.route_laws.proofs.Runs.{Holds, holds}
 use Rattle.route_feed.specs.Installing.{begin, event_lines, events, operation_line, printed_updates, update_lines}
 use Rattle.route_feed.specs.InstallLaws.{BeginningsAreCarriedOut, OutputReadsBack, updates_in}
@@ -83,21 +80,14 @@ between_sound M N m n o i = ⊎_elim installed removed (In-cases o (map Install 
         let k = (In-from_filter _ M t.0 t.1).0 in
         subst Sound (sym t.2) (In-from_All (λ (r : Route). IsBlock r.block) M m.blocks t.0 k)
 
-batch_sound : (M rs : List Route) → IsTable M → Changes rs → AllSound (batch M rs)
-batch_sound M [] m c o i = absurd i
-batch_sound M (r ∷ rs) m c o i =
-    let k = c r (inl refl) in
-    let p = painted_is_table M m r k.0 k.1 in
-    ⊎_elim (between_sound M (painted M r) m p o) (batch_sound (painted M r) rs p (λ s j. c s (inr j)) o) (In-cases o (between M (painted M r)) (batch (painted M r) rs) i)
-
 gives_sound : (s : Installer) (e : Event) → IsTable s.installed → MayCome s e → AllSound (gives s e)
 gives_sound s (Have r) m c o i = absurd i
-gives_sound s (Told rs) m c o i = go s.kept i
+gives_sound s (Told rs N) m c o i = go s.kept refl i
   where
-    go : (b : Bool) → In o (cond b (batch s.installed rs) []) → Sound o
-    go true j = batch_sound s.installed rs m (changes_from rs c) o j
-    go false j = absurd j
-gives_sound s (Sync rs N) m c o i = between_sound s.installed N m c.1.hops.table o i
+    go : (b : Bool) → s.kept ≡ b → In o (cond b (between s.installed N) []) → Sound o
+    go true k j = between_sound s.installed N m (c.1 k).hops.table o j
+    go false k j = absurd j
+gives_sound s (Sync N) m c o i = between_sound s.installed N m c.0.hops.table o i
 
 -- ---- all lines
 

@@ -1,6 +1,5 @@
 -- The hops that notes tell are those that their reply lines commit.
-use Rattle.std.proofs.Common.{◌≡◌, ℕ, Bool, true, false, nat_lt, length, cond, List, [], ◌∷◌, ◌++◌, map, Option, None, refl, sym, ap, ◌∙◌, append_assoc}
-use Rattle.std.specs.Prelude.{◌&&◌}
+use Rattle.std.proofs.Common.{◌≡◌, ℕ, Bool, true, false, cond, List, [], ◌∷◌, ◌++◌, map, Option, None, refl, sym, ap, ◌∙◌, append_assoc}
 use Rattle.std.specs.List.{cons_option}
 use Rattle.std.specs.Option.{option_to_list}
 use Rattle.route_laws.proofs.Fewest.{number_from_hop}
@@ -42,13 +41,9 @@ over_routes now (c ∷ cs) x =
     ∙ over_routes (cond (has_address c.block x) c.number now) cs x
 
 module _ (x : Address) where
-  told_committing : (kept : Bool) (cs : List Change) (N : List Route) (now : Option ℕ) (es : List Event) → told now (committing kept cs N ++ es) x ≡ told (painted_over now cs x) es x
-  told_committing kept [] N now es = refl
-  told_committing kept (c ∷ cs) N now es = go (kept && nat_lt 256 (length (c ∷ cs)))
-    where
-      go : (b : Bool) → told now ((cond b (Event.Sync (map route_to (c ∷ cs)) N) (Event.Told (map route_to (c ∷ cs))) ∷ []) ++ es) x ≡ told (painted_over now (c ∷ cs) x) es x
-      go true = ap (λ o. told o es x) (over_routes now (c ∷ cs) x)
-      go false = ap (λ o. told o es x) (over_routes now (c ∷ cs) x)
+  told_committing : (cs : List Change) (N : List Route) (now : Option ℕ) (es : List Event) → told now (committing cs N ++ es) x ≡ told (painted_over now cs x) es x
+  told_committing [] N now es = refl
+  told_committing (c ∷ cs) N now es = ap (λ o. told o es x) (over_routes now (c ∷ cs) x)
 
   -- an event, and later ones
   told_event : (s : Installing) (note : Note) (N : List Route) (ls : List Reply) (es : List Event)
@@ -64,9 +59,9 @@ module _ (x : Address) where
   told_event s (N.Reply (R.Count v4 v6)) N ls es h now = h now ∙ ap (λ cs. painted_over now cs x) (sym (open_more (ends_well ls) s.pending [] (committed ls)))
   told_event s (N.Reply (R.Close closing)) N ls es h now = go (is_done closing)
     where
-      go : (d : Bool) → told now (cond d (committing s.tables.kept s.pending N) [] ++ es) x ≡ painted_over now (cond d s.pending [] ++ cond (ends_well ls) (committed ls) (committed ls)) x
+      go : (d : Bool) → told now (cond d (committing s.pending N) [] ++ es) x ≡ painted_over now (cond d s.pending [] ++ cond (ends_well ls) (committed ls) (committed ls)) x
       go true =
-          told_committing s.tables.kept s.pending N now es
+          told_committing s.pending N now es
           ∙ h (painted_over now s.pending x)
           ∙ sym (painted-append now s.pending (committed_from [] ls) x)
           ∙ ap (λ cs. painted_over now (s.pending ++ cs) x) (sym (closed_more (ends_well ls) (committed ls)))
@@ -74,4 +69,4 @@ module _ (x : Address) where
 
   pub told_notes : (ns : List Noted) (s : Installing) (now : Option ℕ) → told now (events s ns) x ≡ painted_over now (committed_from s.pending (replies_of ns)) x
   told_notes [] s now = refl
-  told_notes (n ∷ ns) s now = told_event s n.note n.least (replies_of ns) (events (after_note s n) ns) (told_notes ns (after_note s n)) now
+  told_notes (n ∷ ns) s now = told_event s n.note n.table (replies_of ns) (events (after_note s n) ns) (told_notes ns (after_note s n)) now

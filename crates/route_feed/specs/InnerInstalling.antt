@@ -3,32 +3,23 @@ use Rattle.std.specs.Prelude.{◌≡◌, ℕ, true, false, not, List, [], ◌∷
 use Rattle.route_lines.specs.declared.cutter.Line.{Line}
 use Rattle.route_lines.specs.declared.note.Note.{Note}
 use Rattle.route_lines.specs.declared.update.Update.TheVariants as U
-use Rattle.route_choices.specs.Choices.{default_preference}
-use Rattle.route_laws.specs.Batches.{AreChanges, batch, painted_all}
+use Rattle.route_laws.specs.Batches.{painted_all}
 use Rattle.route_laws.specs.LeastTables.{IsLeast}
+use Rattle.route_laws.specs.Nearest.{IsNearest}
 use Rattle.route_laws.specs.Networks.{Stored, routes_of}
 use Rattle.route_laws.specs.Operations.{Operation, between}
 use Rattle.route_laws.specs.Runs.{Event, Have, Told, Sync, Installer, after_event}
-use Rattle.route_laws.specs.Tables.{Route, IsTable, hop_at, route_of}
+use Rattle.route_laws.specs.Tables.{Route, IsTable, hop_at}
 use Rattle.route_feed.specs.declared.counted.Counted.{Counted}
 use Rattle.route_feed.specs.declared.error.RunError.{RunError}
 use Rattle.route_feed.specs.declared.error.RunError.TheVariants as Why
-use Rattle.route_feed.specs.declared.follower.Waiting.{Waiting}
 use Rattle.route_feed.specs.InnerLines.{note_in}
-use Rattle.route_feed.specs.InnerReplies.{Written}
 use Rattle.route_feed.specs.Installing.{Installing, IsUnfit, MayWant, Noted, after_note, batches, event_of, noted_bytes, operation_line, printed_updates}
 use Rattle.route_feed.specs.Devices.{Closed, Torn}
 
 -- the tables of an installer: before the first `sync`, the installed table is another one
 abbrev pub tables_of : List Stored → Option (List Stored) → Installer
 tables_of table before = record { table = routes_of table; installed = routes_of (unwrap_or before table); kept = not (is_some before) }
-
--- pending changes as routes
-abbrev pub route_waiting : Waiting → Route
-route_waiting w = route_of w.net w.hop default_preference
-
-abbrev pub routes_waiting : List Waiting → List Route
-routes_waiting ws = map route_waiting ws
 
 -- the lines of operations, and the lines of a batch, which ends with `ok`
 abbrev pub operation_bytes : List Operation → List ℕ
@@ -37,11 +28,12 @@ operation_bytes os = printed_updates (map operation_line os)
 abbrev pub batch_bytes : List Operation → List ℕ
 batch_bytes os = printed_updates (map operation_line os ++ U.Done ∷ [])
 
--- no route counts as installed already once the table is kept in sync, and a least table has the hops after its changes
+-- no route counts as installed already once the table is kept in sync; from then on, changes install a nearest table; and a `Sync`
+-- installs a least table, which is the installed table if that is a least one already
 abbrev pub IsFit : Installer → Event → Type 0
 IsFit s (Have r) = s.kept ≡ false
-IsFit s (Told rs) = Unit {0}
-IsFit s (Sync rs N) = AreChanges rs → IsLeast (hop_at (painted_all s.table rs)) N
+IsFit s (Told rs N) = s.kept ≡ true → IsNearest s.installed (hop_at (painted_all s.table rs)) N
+IsFit s (Sync N) = IsLeast (hop_at s.table) N × (s.kept ≡ true → IsLeast (hop_at s.table) s.installed → N ≡ s.installed)
 
 -- each of the events is fit in its turn
 abbrev pub AllFit : Installer → List Event → Type 0
@@ -57,29 +49,6 @@ Has a r (Err Why.Read) b = ⊥
 Has a r (Err Why.Write) b = ⊥
 
 module _ {W : Type 0} (contents : W → Option (List ℕ)) where
-  -- a beginning of the text was written, and none of it was flushed
-  pub record Begun (old new : Counted W) (text : List ℕ) : Type 0 where
-    pub front : List ℕ
-    pub back : List ℕ
-    pub is_front : text ≡ front ++ back
-    pub written : Written contents old new front
-
-  -- the operations of the changes were written, and the table is the one after these changes
-  abbrev pub WritesChanges : List Route → List Route → Counted W → Result Unit RunError → List Route → Counted W → Type 0
-  WritesChanges M rs old (Ok done) N new = (N ≡ painted_all M rs) × Written contents old new (operation_bytes (batch M rs))
-  WritesChanges M rs old (Err Why.Memory) N new = Begun old new (operation_bytes (batch M rs))
-  WritesChanges M rs old (Err Why.Write) N new = Torn contents old new (operation_bytes (batch M rs))
-  WritesChanges M rs old (Err Why.Read) N new = ⊥
-  WritesChanges M rs old (Err Why.Line) N new = ⊥
-
-  -- the same, with `ok` at the end, and flushed
-  abbrev pub GivesChanges : List Route → List Route → Counted W → Result Unit RunError → List Route → Counted W → Type 0
-  GivesChanges M rs old (Ok done) N new = (N ≡ painted_all M rs) × Closed contents 1 old new (batch_bytes (batch M rs))
-  GivesChanges M rs old (Err Why.Memory) N new = Begun old new (batch_bytes (batch M rs))
-  GivesChanges M rs old (Err Why.Write) N new = Torn contents old new (batch_bytes (batch M rs))
-  GivesChanges M rs old (Err Why.Read) N new = ⊥
-  GivesChanges M rs old (Err Why.Line) N new = ⊥
-
   -- a table was installed in place of another table, and is kept in sync
   abbrev pub Replaces : Installing → List Route → Counted W → Result Unit RunError → Installing → Counted W → Type 0
   Replaces a N old (Ok done) b new =
@@ -91,29 +60,21 @@ module _ {W : Type 0} (contents : W → Option (List ℕ)) where
 
   -- a note was processed
   pub record Takes (a b : Installing) (n : Noted) (old new : Counted W) : Type 0 where
-    pub fit : AllFit a.tables (event_of a n.note n.least)
+    pub fit : AllFit a.tables (event_of a n.note n.table)
     pub next : b ≡ after_note a n
-    pub closed : Closed contents (batches a.tables (event_of a n.note n.least)) old new (noted_bytes a n)
-
-  -- a beginning of the output for a note was written, the same for every least table
-  pub record Wants (a : Installing) (note : Note) (old new : Counted W) : Type 0 where
-    pub may_want : MayWant a note
-    pub begun : List ℕ
-    pub missing : List Route → List ℕ
-    pub is_front : (N : List Route) → noted_bytes a (record { note = note; least = N }) ≡ begun ++ missing N
-    pub written : Written contents old new begun
+    pub closed : Closed contents (batches a.tables (event_of a n.note n.table)) old new (noted_bytes a n)
 
   -- the writer failed at a note
   pub record Fails (a : Installing) (n : Noted) (old new : Counted W) : Type 0 where
-    pub fit : AllFit a.tables (event_of a n.note n.least)
+    pub fit : AllFit a.tables (event_of a n.note n.table)
     pub torn : Torn contents old new (noted_bytes a n)
 
   -- a note was processed, or the reason why it was not
   abbrev pub TakesNote : Installing → Note → Counted W → Result Unit RunError → Installing → Counted W → Type 0
-  TakesNote a note old (Ok done) b new = (N : List Route) × Takes a b (record { note = note; least = N }) old new
+  TakesNote a note old (Ok done) b new = (N : List Route) × Takes a b (record { note = note; table = N }) old new
   TakesNote a note old (Err Why.Line) b new = IsUnfit a (Some note) × (new ≡ old)
-  TakesNote a note old (Err Why.Memory) b new = Wants a note old new
-  TakesNote a note old (Err Why.Write) b new = (N : List Route) × Fails a (record { note = note; least = N }) old new
+  TakesNote a note old (Err Why.Memory) b new = MayWant a note × (new ≡ old)
+  TakesNote a note old (Err Why.Write) b new = (N : List Route) × Fails a (record { note = note; table = N }) old new
   TakesNote a note old (Err Why.Read) b new = ⊥
 
   -- a line that doesn't spell a note

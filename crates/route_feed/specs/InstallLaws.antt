@@ -16,6 +16,7 @@ use Rattle.route_lines.specs.declared.reply.Reply.TheVariants.{Close}
 use Rattle.route_lines.specs.declared.update.Update.{Update}
 use Rattle.route_lines.specs.declared.update.Update.TheVariants as U
 use Rattle.route_laws.specs.LeastTables.{IsLeast}
+use Rattle.route_laws.specs.Nearest.{IsFewestTo}
 use Rattle.route_laws.specs.Networks.{Stored, routes_of}
 use Rattle.route_laws.specs.Operations.{Operation, IsHitless, after_all}
 use Rattle.route_laws.specs.Runs.{MayAllCome, given, haves, start}
@@ -23,7 +24,7 @@ use Rattle.route_laws.specs.Tables.{Route, hop_at, route_of, with_route, without
 use Rattle.route_feed.specs.Installing.{AreNotes, Noted, after_notes, batches_given, begin, event_of, events, installed_bytes, operation_line, update_lines}
 use Rattle.route_feed.specs.Laws.{table_told}
 use Rattle.route_feed.specs.Output.{at_end, output, table_after, whole_commands}
-use Rattle.route_feed.specs.Streams.{closings, committed, painted, pending_over, replies_in}
+use Rattle.route_feed.specs.Streams.{closings, committed, painted, replies_in}
 
 -- the reply line of a note
 abbrev pub reply_in : Note → Option Reply
@@ -49,7 +50,7 @@ table_by bytes refusals ls = table_at bytes refusals (closings ls)
 
 -- the operations that are written at a note, after other notes
 abbrev pub operations_at : List Noted → Noted → List Operation
-operations_at ns n = given (after_notes begin ns).tables (event_of (after_notes begin ns) n.note n.least)
+operations_at ns n = given (after_notes begin ns).tables (event_of (after_notes begin ns) n.note n.table)
 
 -- the table of the routes that the notes list as installed, after all operations that are written at the notes
 abbrev pub installed_by : List Noted → List Route
@@ -71,11 +72,6 @@ InstalledAgrees = (bytes : List ℕ) (refusals : List Bool) (ns : List Noted) �
     → MayAllCome start (events begin ns) → HasSync ns
     → (x : Address) → IsAddress x → hop_at (installed_by ns) x ≡ hop_at (routes_of (table_by bytes refusals (replies_of ns))) x
 
--- at each note, each address changes its hop at most once
-abbrev pub InstalledIsHitless : Type 0
-InstalledIsHitless = (bytes : List ℕ) (refusals : List Bool) (ns later : List Noted) (n : Noted) → AreFirst bytes refusals (replies_of (ns ++ n ∷ later))
-    → MayAllCome start (events begin (ns ++ n ∷ later)) → IsHitless (installed_by ns) (operations_at ns n)
-
 -- So after a `sync`, each address has at each moment its hop in the leader's table before the reply, or that after it.
 abbrev pub InstalledAtAllTimes : Type 0
 InstalledAtAllTimes = (bytes : List ℕ) (refusals : List Bool) (ns later : List Noted) (n : Noted) → AreFirst bytes refusals (replies_of (ns ++ n ∷ later))
@@ -91,6 +87,10 @@ LogsAreFirst = (bytes : List ℕ) (refusals : List Bool) (front back log : List 
 
 -- ---- any notes
 
+-- each address changes its hop at most once in the operations at a note
+abbrev pub InstalledIsHitless : Type 0
+InstalledIsHitless = (ns : List Noted) (n : Noted) → MayAllCome start (events begin (ns ++ n ∷ [])) → IsHitless (installed_by ns) (operations_at ns n)
+
 -- the operations at a note turn the table installed before it into the table installed after it
 abbrev pub OperationsReach : Type 0
 OperationsReach = (ns : List Noted) (n : Noted) → MayAllCome start (events begin (ns ++ n ∷ [])) → IsNoHave n.note
@@ -98,15 +98,20 @@ OperationsReach = (ns : List Noted) (n : Noted) → MayAllCome start (events beg
 
 -- right after a `sync`, the installed table is a least table of the committed hops
 abbrev pub SyncsAreLeast : Type 0
-SyncsAreLeast = (ns : List Noted) (least : List Route) → MayAllCome start (events begin (ns ++ record { note = Notes.Sync; least = least } ∷ []))
-    → IsLeast (painted (committed (replies_of ns))) (installed_by (ns ++ record { note = Notes.Sync; least = least } ∷ []))
+SyncsAreLeast = (ns : List Noted) (least : List Route) → MayAllCome start (events begin (ns ++ record { note = Notes.Sync; table = least } ∷ []))
+    → IsLeast (painted (committed (replies_of ns))) (installed_by (ns ++ record { note = Notes.Sync; table = least } ∷ []))
 
--- the same after an `ok` with more than 256 pending changes
-abbrev pub LargeRepliesAreLeast : Type 0
-LargeRepliesAreLeast = (ns : List Noted) (least : List Route) → MayAllCome start (events begin (ns ++ record { note = Notes.Reply (Close Done); least = least } ∷ []))
-    → HasSync ns → 256 < length (pending_over [] (replies_of ns))
-    → IsLeast (painted (committed (replies_of (ns ++ record { note = Notes.Reply (Close Done); least = least } ∷ []))))
-    (installed_by (ns ++ record { note = Notes.Reply (Close Done); least = least } ∷ []))
+-- after a `sync`, another one has no operations if the installed table is a least one already
+abbrev pub SyncsStay : Type 0
+SyncsStay = (ns : List Noted) (least : List Route) → MayAllCome start (events begin (ns ++ record { note = Notes.Sync; table = least } ∷ []))
+    → HasSync ns → IsLeast (painted (committed (replies_of ns))) (installed_by ns) → operations_at ns (record { note = Notes.Sync; table = least }) ≡ []
+
+-- after a `sync`, the operations at an `ok` are the fewest of all that bring each address to its committed hop
+abbrev pub RepliesAreFewest : Type 0
+RepliesAreFewest = (ns : List Noted) (nearest : List Route) → MayAllCome start (events begin (ns ++ record { note = Notes.Reply (Close Done); table = nearest } ∷ []))
+    → HasSync ns
+    → IsFewestTo (installed_by ns) (painted (committed (replies_of (ns ++ record { note = Notes.Reply (Close Done); table = nearest } ∷ []))))
+    (operations_at ns (record { note = Notes.Reply (Close Done); table = nearest }))
 
 -- ---- the lines of the output
 

@@ -1,5 +1,5 @@
 -- Notes as events on a table that is kept installed, and the output of an installer for them.
-use Rattle.std.specs.Prelude.{◌≡◌, ℕ, suc, nat_lt, length, Bool, true, false, ◌&&◌, List, [], ◌∷◌, ◌++◌, if◌then◌else◌, Option, Some, None, map}
+use Rattle.std.specs.Prelude.{◌≡◌, ℕ, suc, true, false, List, [], ◌∷◌, ◌++◌, if◌then◌else◌, Option, Some, None, map}
 use Rattle.std.specs.List.{flat_map}
 use Rattle.std.specs.Option.{option_map_or}
 use Rattle.std.specs.Prelude.{codes}
@@ -30,18 +30,16 @@ pub record Installing : Type 0 where
 abbrev pub begin : Installing
 begin = record { tables = start; pending = [] }
 
--- Committed changes are one event, if there are any. If there are more than 256 and the table is kept in sync, a least table of the hops
--- after them is installed, which is N.
-abbrev pub committing : Bool → List Change → List Route → List Event
-committing kept [] N = []
-committing kept (c ∷ cs) N =
-    (if kept && nat_lt 256 (length (c ∷ cs)) then Sync (map route_to (c ∷ cs)) N else Told (map route_to (c ∷ cs))) ∷ []
+-- committed changes are one event, if there are any
+abbrev pub committing : List Change → List Route → List Event
+committing [] N = []
+committing (c ∷ cs) N = Told (map route_to (c ∷ cs)) N ∷ []
 
--- the event of a note, or none; N is the least table that is installed if the event asks for one
+-- the event of a note, or none; N is the table that is installed if the event asks for one
 abbrev pub event_of : Installing → Note → List Route → List Event
 event_of s (Notes.Have net hop) N = Have (route_of net hop default_preference) ∷ []
-event_of s Notes.Sync N = Sync [] N ∷ []
-event_of s (Notes.Reply line) N = if option_map_or is_done (closes line) false then committing s.tables.kept s.pending N else []
+event_of s Notes.Sync N = Sync N ∷ []
+event_of s (Notes.Reply line) N = if option_map_or is_done (closes line) false then committing s.pending N else []
 
 -- the pending changes after a note
 abbrev pub pending_past : List Change → Note → List Change
@@ -49,14 +47,14 @@ pending_past changes (Notes.Have net hop) = changes
 pending_past changes Notes.Sync = changes
 pending_past changes (Notes.Reply line) = pending_after changes (closes line) (change_of line)
 
--- a note, and the least table that is installed if the note asks for one
+-- a note, and the table that is installed if the note asks for one
 pub record Noted : Type 0 where
   pub note : Note
-  pub least : List Route
+  pub table : List Route
 
 -- the state after a note
 abbrev pub after_note : Installing → Noted → Installing
-after_note s n = record { tables = after_events s.tables (event_of s n.note n.least); pending = pending_past s.pending n.note }
+after_note s n = record { tables = after_events s.tables (event_of s n.note n.table); pending = pending_past s.pending n.note }
 
 -- the state after all notes
 abbrev pub after_notes : Installing → List Noted → Installing
@@ -66,10 +64,10 @@ after_notes s (n ∷ ns) = after_notes (after_note s n) ns
 -- the events of the notes
 abbrev pub events : Installing → List Noted → List Event
 events s [] = []
-events s (n ∷ ns) = event_of s n.note n.least ++ events (after_note s n) ns
+events s (n ∷ ns) = event_of s n.note n.table ++ events (after_note s n) ns
 
--- Each piece spells the note at its index. No route counts as installed already once the table is kept in sync. Each table that is
--- installed as a least one is a least table of the hops at that time.
+-- Each piece spells the note at its index. No route counts as installed already once the table is kept in sync. Each table that a `sync`
+-- installs is a least table of the hops at that time, and each that an `ok` installs is nearest to the one before.
 pub record AreNotes (pieces : List (List ℕ)) (ns : List Noted) : Type 0 where
   pub spelled : map note_of pieces ≡ map (λ n. Some n.note) ns
   pub may : MayAllCome start (events begin ns)
@@ -99,7 +97,7 @@ printed_updates us = flat_map (λ u. update_text u ++ codes "\n") us
 
 -- the output at a note
 abbrev pub noted_bytes : Installing → Noted → List ℕ
-noted_bytes s n = printed_updates (update_lines s.tables (event_of s n.note n.least))
+noted_bytes s n = printed_updates (update_lines s.tables (event_of s n.note n.table))
 
 -- the output of an installer for these notes
 abbrev pub installed_bytes : List Noted → List ℕ

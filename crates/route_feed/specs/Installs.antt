@@ -4,7 +4,6 @@ use Rattle.std.specs.Io.KnownBytes.{Appends, Consumes, IsAtEnd}
 use Rattle.route_lines.specs.Bytes.{lines}
 use Rattle.route_lines.specs.Spelled.{note_of}
 use Rattle.route_lines.specs.declared.note.Note.{Note}
-use Rattle.route_laws.specs.Tables.{Route}
 use Rattle.route_feed.specs.declared.counted.Counted.{Counted}
 use Rattle.route_feed.specs.declared.error.RunError.{RunError}
 use Rattle.route_feed.specs.declared.error.RunError.TheVariants as Why
@@ -53,17 +52,13 @@ module _ {R W : Type 0} (remaining : R → Option (List ℕ)) (contents : W → 
     pub unfit : IsUnfit (after_notes begin meets.notes) (note_of meets.piece)
     pub gives : Gives contents meets.notes old new
 
-  -- this line is a note that may need memory. The output of the notes before it was written and flushed, and then a beginning of its own
-  -- output was written, the same for every least table
+  -- this line is a note that may need memory; the output of the notes before it was written and flushed
   pub record MeetsWanting (from to : Counted R) (old new : Counted W) : Type 0 where
     pub meets : Meets remaining from to
     pub note : Note
-    pub begun : List ℕ
-    pub missing : List Route → List ℕ
     pub is_note : note_of meets.piece ≡ Some note
     pub wants : MayWant (after_notes begin meets.notes) note
-    pub is_front : (N : List Route) → noted_bytes (after_notes begin meets.notes) (record { note = note; least = N }) ≡ begun ++ missing N
-    pub gives : GivesThen contents meets.notes begun old new
+    pub gives : Gives contents meets.notes old new
 
   -- this line is a note too; the output of the notes before it was written and flushed, and a beginning of its own was written
   pub record MeetsFault (from to : Counted R) (old new : Counted W) : Type 0 where
@@ -77,9 +72,8 @@ module _ {R W : Type 0} (remaining : R → Option (List ℕ)) (contents : W → 
 
   -- `Ok`: all was read, each line is a note, the output of the notes was written and flushed after each batch, and nothing failed.
   -- `Read`: the same for the lines read so far, and only the reader failed, in its last call. `Line`: one of the lines can't be accepted,
-  -- and the output of those before it was written and flushed. `Memory`: nothing was done, or a note came that may need memory. `Write`:
-  -- the writer failed at a note, in its last call. At the last two, a beginning of the output of this note was written too, but it was
-  -- not flushed.
+  -- and the output of those before it was written and flushed. `Memory`: the same of a note that may need memory, or nothing was done.
+  -- `Write`: the writer failed at a note, in its last call, and a beginning of the output of this note was written too, but not flushed.
   abbrev pub InstallEnds : Counted R → Counted R → Counted W → Counted W → Result Unit RunError → Type 0
   InstallEnds from to old new (Ok done) = Installs from to old new × IsAtEnd (remaining to.device) × (to.faults ≡ from.faults) × (new.faults ≡ old.faults)
   InstallEnds from to old new (Err Why.Read) = Installs from to old new × ReadFault from to × (new.faults ≡ old.faults)

@@ -8,11 +8,11 @@ ghost use Rattle.route_feed.specs.InnerReplies.{GivesLine, choice_line, own_line
 ghost use Rattle.route_feed.specs.Steps.{change_line, flat_line, route_line};
 ghost use Rattle.route_lines.specs.Texts.{IsPrintable};
 ghost use Rattle.route_lines.specs.declared.reply.Reply.{Reply};
-ghost use Rattle.route_table.specs.Operations.{GivesOperation};
+ghost use Rattle.route_table.specs.Operations.{GivesOperation, network_of, operation_of};
 
 use ipnet::IpNet;
 use route_lines::Reply;
-use route_table::{All, Between, Flat, Governed, Operation, Repaint, Routes};
+use route_table::{All, Between, Flat, Governed, Operation, Routes};
 
 /// An iterator over the lines of a reply, without its closing line.
 pub trait Body: Drop {
@@ -147,30 +147,41 @@ impl Body for Flat<'_> {
     }
 }
 
-/// An iterator over operations on an installed table.
+/// Operations on an installed table, one after another.
 pub trait Operations: Drop {
     /// The operations that are left.
     ghost left: { Self → List Operation };
 
+    /// Whether their networks have no host bits.
+    ghost can_give: { Self → Type 0 };
+
     /// Returns the next operation.
     fn next_operation(&mut self) -> Option<Operation>
-        ensures { GivesOperation (left self.old) result (left self.new) };
+        requires { can_give self.old }
+        ensures operation { GivesOperation (left self.old) result (left self.new) }
+        ensures others { can_give self.new };
 }
 
 /// The operations between two tables.
 impl Operations for Between<'_> {
     ghost left = { λ operations. operations };
 
+    ghost can_give = { λ operations. ⊤ };
+
     fn next_operation(&mut self) -> Option<Operation> {
         self.next()
     }
 }
 
-/// The operations of one change.
-impl Operations for Repaint<'_> {
-    ghost left = { λ operations. operations };
+/// Operations in a list.
+impl Operations for &[Operation] {
+    ghost left = { λ operations. map operation_of operations.now };
+
+    ghost can_give = { λ operations. All (λ o. IsTruncated (family (network_of o)) (parts (network_of o))) operations.now };
 
     fn next_operation(&mut self) -> Option<Operation> {
-        self.next()
+        let (operation, others) = self.split_first()?;
+        *self = others;
+        Some(*operation)
     }
 }

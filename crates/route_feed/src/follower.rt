@@ -68,13 +68,6 @@ impl From<FollowError> for RunError {
     }
 }
 
-/// A pending change: its reply isn't closed yet.
-#[derive(Clone, Copy)]
-pub(crate) struct Waiting {
-    pub net: IpNet,
-    pub hop: Hop,
-}
-
 /// The hops that the reply lines of a leader report, in a table of its own.
 ///
 /// `set` and `unset` lines are pending until their reply is closed. `ok` commits them in order, and `none`, `bad` and `refused` drop
@@ -93,7 +86,7 @@ pub(crate) struct Waiting {
 #[derive(Drop)]
 pub struct Follower {
     table: HopTable,
-    waiting: Vec<Waiting>,
+    waiting: Vec<(IpNet, Hop)>,
     failed: bool,
 }
 
@@ -107,14 +100,14 @@ impl Model for Follower {
 }
 
 /// Commits the changes, in order.
-fn carry_out(table: &mut HopTable, changes: &[Waiting]) -> Result<(), FollowError>
+fn carry_out(table: &mut HopTable, changes: &[(IpNet, Hop)]) -> Result<(), FollowError>
     ensures hops { OnOk result ((x : Address) → IsAddress x → hop_at (routes_of table.new) x ≡ painted_over (hop_at (routes_of table.old) x) (changes_of changes.now) x) }
     ensures memory { IfErr result (λ e. e ≡ FollowError.Memory) }
     ensures some { OnErr result (0 < length changes.now) }
     ensures first { OnErr result (HasFirst table.old (changes_of changes.now) table.new) }
 {
     for change in changes {
-        table.overwrite(change.net, change.hop)?;
+        table.overwrite(change.0, change.1)?;
     }
     Ok(())
 }
@@ -314,12 +307,12 @@ impl Follower {
     /// Keeps a change until its reply is closed.
     fn keep(&mut self, net: IpNet, hop: Hop) -> Result<(), FollowError>
         ensures table { self.new.table ≡ self.old.table }
-        ensures pending { OnOk result (self.new.pending ≡ self.old.pending ++ waiting_change (record { net = net; hop = hop }) ∷ []) }
+        ensures pending { OnOk result (self.new.pending ≡ self.old.pending ++ waiting_change (net, hop) ∷ []) }
         ensures stays { OnErr result (self.new.pending ≡ self.old.pending) }
         ensures memory { IfErr result (λ e. e ≡ FollowError.Memory) }
         ensures failed { self.new.failed ≡ self.old.failed }
     {
-        self.waiting.push(Waiting { net, hop })?;
+        self.waiting.push((net, hop))?;
         Ok(())
     }
 

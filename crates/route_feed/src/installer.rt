@@ -1,16 +1,21 @@
 //! An installer: keeps an installed table in sync with a leader's reply lines.
-ghost use Rattle.std.specs.Prelude.{◌≡◌, ◌≤◌, ◌<◌, ◌++◌, ◌∷◌, [], IfErr, IfOk, IsOk, OnErr, OnOk, length, map, false, true};
+ghost use Rattle.std.specs.Prelude.{◌≡◌, ◌≢◌, ◌<◌, ◌++◌, ◌∷◌, [], All, IfErr, IfOk, IsOk, OnErr, OnOk, length, map, false, true};
+ghost use Rattle.ipnet.specs.IpNets.{family, parts};
+ghost use Rattle.ipnet_blocks.specs.Networks.{IsTruncated};
 ghost use Rattle.route_choices.specs.Choices.{default_preference};
-ghost use Rattle.route_laws.specs.Batches.{AreChanges, painted, painted_all};
+ghost use Rattle.route_laws.specs.Batches.{painted_all};
 ghost use Rattle.route_laws.specs.LeastTables.{IsLeast, routes_for};
+ghost use Rattle.route_laws.specs.Nearest.{IsNearest};
 ghost use Rattle.route_laws.specs.Networks.{routes_of};
+ghost use Rattle.route_laws.specs.Operations.{between};
 ghost use Rattle.route_laws.specs.Tables.{IsTable, hop_at, route_of};
 ghost use Rattle.route_lines.specs.declared.note.Note.{Note};
+ghost use Rattle.route_table.specs.Operations.{network_of, operation_of};
 ghost use Rattle.route_feed.specs.Counted.{CanCount};
 ghost use Rattle.route_feed.specs.Devices.{Closes};
 ghost use Rattle.route_feed.specs.Installing.{begin, route_to};
 ghost use Rattle.route_feed.specs.InnerLines.{AreTruncated};
-ghost use Rattle.route_feed.specs.InnerInstalling.{GivesChanges, Has, Replaces, TakesNote, WritesChanges, batch_bytes, route_waiting, routes_waiting};
+ghost use Rattle.route_feed.specs.InnerInstalling.{Has, Replaces, TakesNote, batch_bytes};
 ghost use Rattle.route_feed.specs.InnerWaiting.{changes_of, waiting_change};
 ghost use Rattle.route_lines.specs.declared.reply.Closing.{Closing};
 ghost use Rattle.route_lines.specs.declared.reply.Reply.{Reply};
@@ -18,17 +23,13 @@ ghost use Rattle.route_lines.specs.declared.reply.Reply.{Reply};
 use crate::body::Operations;
 use crate::counted::Counted;
 use crate::error::RunError;
-use crate::follower::Waiting;
 use crate::writing::{close, write_operations};
 use ipnet::IpNet;
 use route_lines::{Closing, Note, Reply};
-use route_table::{Hop, HopTable};
+use route_table::{Hop, HopTable, Operation};
 use std::alloc::Global;
 use std::io::Write;
 use std::marker::Model;
-
-/// The most changes of a reply that are carried out one by one. For more changes, a least table is installed.
-const MOST_CHANGES: usize = 256;
 
 /// The hops that a leader's reply lines report, as a table, and the table that is installed elsewhere. From the first `sync` on both are
 /// the same table.
@@ -38,7 +39,7 @@ pub(crate) struct Installer {
     table: HopTable,
     /// The installed table before the first `sync`.
     before: Option<HopTable>,
-    waiting: Vec<Waiting>,
+    waiting: Vec<(IpNet, Hop)>,
 }
 
 impl Model for Installer {
@@ -51,54 +52,16 @@ impl Model for Installer {
     ghost view = { λ i. record { tables = tables_of i.table i.before; pending = changes_of i.waiting.items } };
 }
 
-/// Carries out a change.
-fn paint(table: &mut HopTable, change: &Waiting) -> Result<(), RunError>
-    ensures routes { OnOk result (routes_of table.new ≡ painted (routes_of table.old) (route_waiting change.now)) }
-    ensures memory { IfErr result (λ e. e ≡ RunError.Memory) }
-{
-    table.paint(change.net, change.hop)?;
-    Ok(())
-}
-
 /// Carries out the changes, in order.
-fn paint_all(table: &mut HopTable, changes: &[Waiting]) -> Result<(), RunError>
-    ensures routes { OnOk result (routes_of table.new ≡ painted_all (routes_of table.old) (routes_waiting changes.now)) }
+fn paint_all(table: &mut HopTable, changes: &[(IpNet, Hop)]) -> Result<(), RunError>
+    ensures routes { OnOk result (routes_of table.new ≡ painted_all (routes_of table.old) (routes_for changes.now)) }
     ensures memory { IfErr result (λ e. e ≡ RunError.Memory) }
     ensures some { OnErr result (0 < length changes.now) }
 {
     for change in changes {
-        paint(table, change)?;
+        table.paint(change.0, change.1)?;
     }
     Ok(())
-}
-
-/// Writes the operations of the changes, one change after another, and carries each out.
-fn write_changes<W: Write>(
-    table: &mut HopTable,
-    changes: &[Waiting],
-    writer: &mut Counted<W>,
-) -> Result<(), RunError>
-    requires { CanCount writer.old }
-    ensures { WritesChanges W.contents (routes_of table.old) (routes_waiting changes.now) writer.old result (routes_of table.new) writer.new }
-{
-    for change in changes {
-        write_operations(writer, table.repaint(change.net, change.hop))?;
-        paint(table, change)?;
-    }
-    Ok(())
-}
-
-/// Writes the batch of the changes.
-fn give_changes<W: Write>(
-    table: &mut HopTable,
-    changes: &[Waiting],
-    writer: &mut Counted<W>,
-) -> Result<(), RunError>
-    requires { CanCount writer.old }
-    ensures { GivesChanges W.contents (routes_of table.old) (routes_waiting changes.now) writer.old result (routes_of table.new) writer.new }
-{
-    write_changes(table, changes, writer)?;
-    close(writer, Closing::Done)
 }
 
 /// Writes the batch of the operations.
@@ -106,7 +69,8 @@ fn give_batch<W: Write, O: Operations>(
     writer: &mut Counted<W>,
     operations: O,
 ) -> Result<(), RunError>
-    requires { CanCount writer.old }
+    requires counts { CanCount writer.old }
+    requires operations { O.can_give operations }
     ensures { Closes W.contents 1 writer.old writer.new result (batch_bytes (O.left operations)) }
 {
     write_operations(writer, operations)?;
@@ -131,21 +95,26 @@ fn table_of(alloc: Global, list: &[(IpNet, Hop)]) -> Result<HopTable, RunError>
     Ok(HopTable::from_routes(alloc, list)?)
 }
 
-/// A least table of the hops of the table after the changes.
-fn least_after(
-    alloc: Global,
-    table: &HopTable,
-    changes: &[Waiting],
-) -> Result<Vec<(IpNet, Hop)>, RunError>
-    ensures least { IfOk result (λ list. IsTable (routes_of table.now) → AreChanges (routes_waiting changes.now) → IsLeast (hop_at (painted_all (routes_of table.now) (routes_waiting changes.now))) (routes_for list.items)) }
-    ensures table { IfOk result (λ list. IsTable (routes_for list.items)) }
-    ensures truncated { IfOk result (λ list. AreTruncated list.items) }
+/// Carries out the changes by the fewest operations, and returns these.
+fn update(table: &mut HopTable, changes: &[(IpNet, Hop)]) -> Result<Vec<Operation>, RunError>
+    ensures nearest { IfOk result (λ operations. IsNearest (routes_of table.old) (hop_at (painted_all (routes_of table.old) (routes_for changes.now))) (routes_of table.new)) }
+    ensures operations { IfOk result (λ operations. map operation_of operations.items ≡ between (routes_of table.old) (routes_of table.new)) }
+    ensures truncated { IfOk result (λ operations. All (λ o. IsTruncated (family (network_of o)) (parts (network_of o))) operations.items) }
     ensures memory { IfErr result (λ e. e ≡ RunError.Memory) }
 {
-    let same = least(table)?;
-    let mut after = table_of(alloc, same.as_slice())?;
-    paint_all(&mut after, changes)?;
-    least(&after)
+    let operations = table.updates(changes)?;
+    table.carry_out(operations.as_slice())?;
+    Ok(operations)
+}
+
+/// Whether the table has as many networks as the list.
+fn has_as_many(table: &HopTable, list: &[(IpNet, Hop)]) -> bool
+    ensures same { result ≡ true → length (routes_of table.now) ≡ length list.now }
+    ensures other { result ≡ false → length (routes_of table.now) ≢ length list.now }
+    ensures table { IsTable (routes_of table.now) }
+{
+    let (v4, v6) = table.count();
+    v4 <= list.len() && list.len() - v4 == v6
 }
 
 impl Installer {
@@ -228,12 +197,15 @@ impl Installer {
         self.before = None;
     }
 
-    /// Turns the installed table into a least table of the committed hops.
+    /// Turns the installed table into a least table of the committed hops. If it is one already, it stays.
     fn sync<W: Write>(&mut self, writer: &mut Counted<W>) -> Result<(), RunError>
         requires { CanCount writer.old }
         ensures { TakesNote W.contents self.old Note.Sync writer.old result self.new writer.new }
     {
         let list = least(&self.table)?;
+        if self.before.is_none() && has_as_many(&self.table, list.as_slice()) {
+            return close(writer, Closing::Done);
+        }
         self.replace(list.as_slice(), writer)
     }
 
@@ -257,10 +229,10 @@ impl Installer {
     /// Keeps a change until its reply is closed.
     fn keep(&mut self, net: IpNet, hop: Hop) -> Result<(), RunError>
         ensures tables { self.new.tables ≡ self.old.tables }
-        ensures pending { OnOk result (self.new.pending ≡ self.old.pending ++ waiting_change (record { net = net; hop = hop }) ∷ []) }
+        ensures pending { OnOk result (self.new.pending ≡ self.old.pending ++ waiting_change (net, hop) ∷ []) }
         ensures memory { IfErr result (λ e. e ≡ RunError.Memory) }
     {
-        self.waiting.push(Waiting { net, hop })?;
+        self.waiting.push((net, hop))?;
         Ok(())
     }
 
@@ -273,10 +245,8 @@ impl Installer {
             self.commit_unseen()
         } else if self.waiting.is_empty() {
             Ok(())
-        } else if self.waiting.len() <= MOST_CHANGES {
-            self.commit_each(writer)
         } else {
-            self.commit_least(writer)
+            self.commit_seen(writer)
         }
     }
 
@@ -293,28 +263,16 @@ impl Installer {
         Ok(())
     }
 
-    /// Commits the pending changes, and carries them out one by one.
-    fn commit_each<W: Write>(&mut self, writer: &mut Counted<W>) -> Result<(), RunError>
+    /// Commits the pending changes, and writes the operations for them. Nothing is written before the table has all of them, so no batch is
+    /// cut off for want of memory.
+    fn commit_seen<W: Write>(&mut self, writer: &mut Counted<W>) -> Result<(), RunError>
         requires counts { CanCount writer.old }
         requires kept { self.old.tables.kept ≡ true }
         requires some { 0 < length self.old.pending }
-        requires few { length self.old.pending ≤ 256 }
         ensures { TakesNote W.contents self.old (Note.Reply (Reply.Close Closing.Done)) writer.old result self.new writer.new }
     {
-        give_changes(&mut self.table, self.waiting.as_slice(), writer)?;
-        self.waiting.clear();
-        Ok(())
-    }
-
-    /// Commits the pending changes by installing a least table.
-    fn commit_least<W: Write>(&mut self, writer: &mut Counted<W>) -> Result<(), RunError>
-        requires counts { CanCount writer.old }
-        requires kept { self.old.tables.kept ≡ true }
-        requires many { 256 < length self.old.pending }
-        ensures { TakesNote W.contents self.old (Note.Reply (Reply.Close Closing.Done)) writer.old result self.new writer.new }
-    {
-        let list = least_after(self.alloc, &self.table, self.waiting.as_slice())?;
-        self.replace(list.as_slice(), writer)?;
+        let operations = update(&mut self.table, self.waiting.as_slice())?;
+        give_batch(writer, operations.as_slice())?;
         self.waiting.clear();
         Ok(())
     }

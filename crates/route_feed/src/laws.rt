@@ -2,7 +2,7 @@
 ghost use Rattle.std.specs.Prelude.{◌≡◌, ◌↔◌, IsTrue};
 ghost use Rattle.route_feed.specs.declared.error.RunError.{RunError as AnyRunError};
 ghost use Rattle.route_feed.specs.declared.follower.FollowError.{FollowError as AnyFollowError};
-ghost use Rattle.route_feed.specs.InstallLaws.{BeginningsAreCarriedOut, BeginningsAreNotes, CutsAgree, InstalledAgrees, InstalledAtAllTimes, InstalledIsHitless, LargeRepliesAreLeast, LogsAreFirst, OperationsReach, OutputAgrees, OutputIsGiven, OutputReadsBack, SyncsAreLeast};
+ghost use Rattle.route_feed.specs.InstallLaws.{BeginningsAreCarriedOut, BeginningsAreNotes, CutsAgree, InstalledAgrees, InstalledAtAllTimes, InstalledIsHitless, LogsAreFirst, OperationsReach, OutputAgrees, OutputIsGiven, OutputReadsBack, RepliesAreFewest, SyncsAreLeast, SyncsStay};
 ghost use Rattle.route_feed.specs.Laws.{AllAreAnswered, BeginningsAgree, BeginningsAreReplies, FlatListsAgree, LinesKeepHops, LinesRebuild, LinesStayLeast, NoHopsNoLines, OutputIsFollowed, RestartedAgree, SameFlatBytes, ShortenedAgree, ToldIsTable};
 
 use crate::error::RunError;
@@ -48,23 +48,29 @@ pub fn shortened()
     ensures least { LinesStayLeast }
 {}
 
-/// The table that is installed by an installer. It reads the replies of a leader, with `have` and `sync` lines anywhere between them. The
-/// installed table consists of the routes of the `have` lines, changed by all operations that were written.
+/// The table that is installed by an installer. It consists of the routes of the `have` lines, changed by all operations that were
+/// written.
 ///
-/// - `hops`: from the first `sync` on, each address has the hop of the leader's table after as many commands as complete replies were
-///   read.
+/// Take the replies of a leader, with `have` and `sync` lines anywhere between them, from the first `sync` on:
+///
+/// - `hops`: each address has the hop of the leader's table after as many commands as complete replies were read.
+/// - `times`: at each moment each address has its hop before the reply or its hop after the reply.
+///
+/// Take any lines that an installer reads:
+///
 /// - `hitless`: the operations of one line change the hop of each address at most once.
-/// - `times`: so at each moment each address has its hop before the reply or its hop after the reply.
 /// - `reaches`: the operations of a line turn the table installed before it into the table installed after it.
-/// - `least`: after a `sync`, no table with the same hops has fewer routes.
-/// - `large`: after a reply with more than 256 changes, no table with the same hops has fewer routes.
+/// - `fewest`: after a `sync`, the operations at an `ok` are the fewest of all that bring each address to its committed hop.
+/// - `least`: right after a `sync`, no table with the same hops has fewer routes.
+/// - `stays`: a later `sync` has no operations if that is so already.
 pub fn installed()
     ensures hops { InstalledAgrees }
-    ensures hitless { InstalledIsHitless }
     ensures times { InstalledAtAllTimes }
+    ensures hitless { InstalledIsHitless }
     ensures reaches { OperationsReach }
+    ensures fewest { RepliesAreFewest }
     ensures least { SyncsAreLeast }
-    ensures large { LargeRepliesAreLeast }
+    ensures stays { SyncsStay }
 {}
 
 /// The output of an installer.

@@ -228,21 +228,20 @@ pub fn shorten<R: Read, W: Write>(
 /// Keeps a table that is installed elsewhere in sync with the hops that the input lines report, by the operations that it writes.
 ///
 /// `have` lines list the routes that are installed at the start, and the reply lines of a leader report the hops. At the first `sync`,
-/// and at each later one, the installed table is turned into a smallest table with the committed hops. After the first `sync`, each `ok`
-/// of the input commits the pending changes. Up to 256 changes are carried out one by one, each by the fewest operations. More changes
-/// are carried out by installing a smallest table.
+/// and at each later one, the installed table is turned into a smallest table with the committed hops; if it is one already, a later
+/// `sync` gives an empty batch. After the first `sync`, each `ok` of the input commits the pending changes. Its operations are the fewest
+/// of all that bring each address to its committed hop.
 ///
 /// The operations of one line are a batch, which may be empty. Each batch ends with `ok`, and then the writer is flushed. An `ok` of the
 /// input without pending changes gives no batch, and before the first `sync` nothing is written. While a batch is carried out, each
-/// address changes its hop at most once, if no two changes of the reply have a common address (`laws::installed`). Those of a leader have
-/// none.
+/// address changes its hop at most once (`laws::installed`).
 ///
 /// Bytes after the last line end are ignored. If the reader's or the writer's type doesn't specify its bytes, as that of a file, the run
 /// does the same, but nothing is proved about these bytes.
 ///
 /// # Errors
-/// The batches of all lines before the error were written and flushed. At `Memory` and `Write`, a beginning of the next batch may be
-/// written too, but not flushed.
+/// The batches of all lines before the error were written and flushed. At `Write`, a beginning of the next batch may be written too, but
+/// not flushed.
 ///
 /// - `Line` if a line is none of these, or is a `have` line after a `sync`.
 /// - `Memory` before anything is read, or at a `have` line, a `sync`, a reply line with a change, or one that commits changes.

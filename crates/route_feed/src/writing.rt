@@ -103,7 +103,8 @@ pub fn write_operations<W: Write, O: Operations>(
     writer: &mut Counted<W>,
     mut operations: O,
 ) -> Result<(), RunError>
-    requires { CanCount writer.old }
+    requires counts { CanCount writer.old }
+    requires operations { O.can_give operations }
     ensures { Writes W.contents writer.old writer.new result (operation_bytes (O.left operations)) }
 {
     let mut text = ArrayVec::new();

@@ -18,7 +18,7 @@ loop-change-preserved c = λ x a.
     let i = c.loop-change.change-index in
     let within : i < length c.args.changes.now = omega arith in
     c.in_ok-overwrite.ensures.hops x a
-    ∙ ap (λ o. cond (has_address (block it.net) x) (number_of it.hop) o) (c.loop-change.invariant x a)
+    ∙ ap (λ o. cond (has_address (block it.0) x) (number_of it.1) o) (c.loop-change.invariant x a)
     ∙ one_more (hop_at (routes_of c.args.table.now) x) c.args.changes.now i it x within c.change-item.is
 
 on_err_by : {T E X : Type 0} (r : Result T E) → X → OnErr r X

@@ -7,4 +7,4 @@ pub loop-change-preserved : goal.loop-change-preserved
 loop-change-preserved c =
     let i = c.loop-change.change-index in
     let within : i < length c.args.changes.now = omega arith in
-    next_painted (routes_of c.args.table.now) c.args.changes.now i c.change-item.result within c.change-item.is (routes_of c.loop-change.table) (routes_of c.paint.new.table) c.loop-change.invariant c.in_ok-paint.ensures.routes
+    next_painted (routes_of c.args.table.now) c.args.changes.now i c.change-item.result within c.change-item.is (routes_of c.loop-change.table) (routes_of c.paint.new.self) c.loop-change.invariant c.in_ok-paint.ensures.routes

@@ -1,4 +1,4 @@
-use Rattle.route_feed.proofs.KeptTable.{installed_agrees, installed_at_all_times, installed_is_hitless, large_replies_are_least, operations_reach, syncs_are_least}
+use Rattle.route_feed.proofs.KeptTable.{installed_agrees, installed_at_all_times, installed_is_hitless, operations_reach, replies_are_fewest, syncs_are_least, syncs_stay}
 use Rattle.route_feed.proofs.laws.installed.Goals as goal
 
 pub returns-clause-hops : goal.returns-clause-hops
@@ -16,5 +16,8 @@ returns-clause-reaches c = operations_reach
 pub returns-clause-least : goal.returns-clause-least
 returns-clause-least c = syncs_are_least
 
-pub returns-clause-large : goal.returns-clause-large
-returns-clause-large c = large_replies_are_least
+pub returns-clause-fewest : goal.returns-clause-fewest
+returns-clause-fewest c = replies_are_fewest
+
+pub returns-clause-stays : goal.returns-clause-stays
+returns-clause-stays c = syncs_stay

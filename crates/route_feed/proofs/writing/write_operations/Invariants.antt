@@ -4,7 +4,10 @@ use Rattle.route_feed.proofs.Telling.{Told}
 use Rattle.route_feed.proofs.writing.write_operations.Given as goal
 
 abbrev pub invariant-loop-operation : goal.invariant-loop-operation
-invariant-loop-operation g l = Told g.W.Write.contents operation_bytes l.fn.writer l.writer (g.O.Operations.left l.fn.operations) (g.O.Operations.left l.operations)
+invariant-loop-operation g l = record {
+  can : g.O.Operations.can_give l.operations;
+  told : Told g.W.Write.contents operation_bytes l.fn.writer l.writer (g.O.Operations.left l.fn.operations) (g.O.Operations.left l.operations);
+}
 
 abbrev pub decreases-loop-operation : goal.decreases-loop-operation
 decreases-loop-operation g l = length (g.O.Operations.left l.operations)
