@@ -1,4 +1,4 @@
-//! An installer with hundreds of changes, and single lines for a table.
+//! An installer with hundreds of changes in a reply, and single lines for a table.
 use crate::tests::rows::{row_is, text_is};
 use crate::tests::runs::{Mode, gives};
 use route_feed::{Counted, install, lead_line};
@@ -7,13 +7,13 @@ use std::alloc::Global;
 use std::process::Abort;
 use std::test::Fail;
 
-/// The line `first`; `count` lines of `word` for the addresses from 10.0.0.0 on, each with the hop 1; and `ok`.
-fn lines(rt: &impl Abort, alloc: Global, first: &str, word: &str, count: u16) -> String {
+/// A `sync`, and a reply that gives so many addresses from 10.0.0.0 on the hop 1.
+fn changes(rt: &impl Abort, alloc: Global, count: u16) -> String {
     let mut text = String::new(alloc);
-    text.push_str(first).expect(rt, "memory");
+    text.push_str("sync\n").expect(rt, "memory");
     for at in 0..count {
         let (high, low) = (at / 256, at % 256);
-        write!(text, "{word} 10.0.{high}.{low}/32 1\n").expect(rt, "memory");
+        write!(text, "set 10.0.{high}.{low}/32 1\n").expect(rt, "memory");
     }
     text.push_str("ok\n").expect(rt, "memory");
     text
@@ -31,24 +31,24 @@ fn in_memory(rt: HostRuntime) -> Result<(), Fail> {
     Ok(())
 }
 
-/// Up to 256 changes are carried out one by one.
+/// The changes of a reply fill a network: one operation.
 #[test]
-fn many_changes(rt: HostRuntime) {
-    let input = lines(&rt, rt.alloc(), "sync\n", "set", 256);
-    let wanted = lines(&rt, rt.alloc(), "ok\n", "install", 256);
+fn a_whole_network(rt: HostRuntime) {
+    let input = changes(&rt, rt.alloc(), 256);
+    let wanted = "ok\ninstall 10.0.0.0/24 1\nok\n";
     gives(
         &rt,
         rt.alloc(),
         (Mode::Install, input.as_str()),
-        wanted.as_str(),
+        wanted,
         Ok(()),
     );
 }
 
-/// More than 256 changes lead to a least table at once.
+/// With one change more, it takes two.
 #[test]
-fn very_many_changes(rt: HostRuntime) {
-    let input = lines(&rt, rt.alloc(), "sync\n", "set", 257);
+fn one_more_address(rt: HostRuntime) {
+    let input = changes(&rt, rt.alloc(), 257);
     let wanted = "ok\ninstall 10.0.1.0/32 1\ninstall 10.0.0.0/24 1\nok\n";
     gives(
         &rt,
