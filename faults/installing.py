@@ -1,8 +1,8 @@
-"""What an installer has to write for its input, worked out from docs/ROUTES_FIB.md alone. Several tables may be least, so its output is
-looked at batch by batch: whichever table a batch of a `sync` makes, it has to be one of these, and made in the order that is told."""
+"""What an installer has to write for its input, worked out from docs/ROUTES_FIB.md alone. Several tables may be least, or as near to the
+installed one. So its output is looked at batch by batch: whichever table a batch makes, it has to be one of these, and made in the order
+that is told."""
 from model import change, fewest, hop, network, painted, written
 
-MOST = 256
 WIDTHS = (32, 128)
 
 
@@ -10,10 +10,6 @@ def order(net):
     """The order of networks: by first address, then shorter ones first."""
     width, first, last = net
     return width, first, -last
-
-
-def inside(net, other):
-    return net[0] == other[0] and other[1] <= net[1] and net[2] <= other[2]
 
 
 def text_of(net):
@@ -36,18 +32,6 @@ def between(old, new):
         [removes(net) for net in sorted(old, key=order) if net not in new]
 
 
-def handed(table, net):
-    """The hop that the block inherits from the routes outside."""
-    outside = [other for other in table if other != net and inside(net, other)]
-    return table[min(outside, key=lambda other: other[2] - other[1])] if outside else None
-
-
-def changed(table, net, to):
-    """The table after a block gets another hop."""
-    new = {other: held for other, held in table.items() if not inside(other, net)}
-    return new if handed(new, net) == to else {**new, net: to}
-
-
 def after(table, batch):
     """The table after these operations. ValueError if one is not an operation, or removes a route that isn't there."""
     table = dict(table)
@@ -62,11 +46,20 @@ def after(table, batch):
     return table
 
 
-def is_least(table, told):
-    """Whether the table has the hops after these changes, and no table with these hops has fewer routes."""
+def has_hops(table, told):
+    """Whether the table has the hops after these changes."""
     routes = sorted(table.items(), key=lambda route: route[0][1] - route[0][2])
-    return all(painted(routes, width) == painted(told, width) and sum(net[0] == width for net in table) == fewest(told, width)
-               for width in WIDTHS)
+    return all(painted(routes, width) == painted(told, width) for width in WIDTHS)
+
+
+def is_least(table, told):
+    """Whether it has, and no table with these hops has fewer routes."""
+    return has_hops(table, told) and len(table) == sum(fewest(told, width) for width in WIDTHS)
+
+
+def operations(table, told):
+    """The least number of operations that bring the table to the hops after these changes."""
+    return sum(fewest(told, width, [((first, last), to) for (w, first, last), to in table.items() if w == width]) for width in WIDTHS)
 
 
 def note(line):
@@ -89,30 +82,30 @@ class Installed:
     def __init__(self, batches):
         self.table, self.told, self.waiting, self.kept, self.batches = {}, [], [], False, batches
 
-    def least(self):
-        """The next batch makes a least table, and has the operations between both tables."""
+    def batch(self):
+        """The operations of the next batch, and the table after them. It has the leader's hops, and the operations are those between both
+        tables, in the order that is told."""
         batch = self.batches.pop(0)
         new = after(self.table, batch)
-        if batch != between(self.table, new) or not is_least(new, self.told):
+        if batch != between(self.table, new) or not has_hops(new, self.told):
             raise ValueError
-        self.table = new
+        return batch, new
 
-    def each(self):
-        """The next batch carries out the pending changes, one by one."""
-        wanted = []
-        for net, to in self.waiting:
-            new = changed(self.table, net, to)
-            wanted += between(self.table, new)
-            self.table = new
-        if self.batches.pop(0) != wanted:
+    def sync(self):
+        """The next batch makes a least table. If the installed table is kept, and is a least one already, it has no operations."""
+        batch, new = self.batch()
+        if not is_least(new, self.told) or batch and self.kept and is_least(self.table, self.told):
             raise ValueError
+        self.table, self.kept = new, True
 
     def commit(self):
+        """The pending changes take effect; if there are any and the table is kept, the next batch has the fewest operations."""
         self.told += self.waiting
-        if self.kept and len(self.waiting) > MOST:
-            self.least()
-        elif self.kept and self.waiting:
-            self.each()
+        if self.kept and self.waiting:
+            batch, new = self.batch()
+            if len(batch) != operations(self.table, self.told):
+                raise ValueError
+            self.table = new
         self.waiting = []
 
     def take(self, kind, what):
@@ -121,8 +114,7 @@ class Installed:
         elif kind == "change":
             self.waiting.append(what)
         elif kind == "sync":
-            self.least()
-            self.kept = True
+            self.sync()
         elif what == b"ok":
             self.commit()
         elif what in (b"none", b"bad", b"refused"):

@@ -1,5 +1,6 @@
 """A model of reply streams, by the rules of docs/ROUTES.md alone: the committed changes, their flat list, and the fewest routes
 with their hops."""
+import functools
 import re
 
 
@@ -147,25 +148,36 @@ def flat(changes):
     return "".join(lines).encode() + b"ok\n"
 
 
-def fewest(changes, width):
-    """The least number of routes of a table of one family with these hops, computed from the halves of each block. For each
-    inherited hop, a block needs no route of its own, or one, with any hop or none."""
-    pieces = painted(changes, width)
-    hops = {None} | {to for _, _, to in pieces}
+def fewest(changes, width, routes=()):
+    """The least number of installs and removals that give the addresses of one family the hops of the changes. The routes are installed
+    already: pairs of a span and a hop. Without them it is the least number of routes of a table with these hops."""
+    return fewest_of(width, tuple(map(tuple, painted(changes, width))), frozenset(routes))
 
-    def needs(start, size, inside):
-        """The same for the block from this start on, for each inherited hop; the spans are those that overlap the block."""
+
+@functools.cache
+def fewest_of(width, pieces, routes):
+    """The same for these spans of addresses with their hops, computed from the halves of each block. For each inherited hop, a block keeps
+    its route or has none; or another route is installed, with any hop or none."""
+    hops = {None} | {to for _, _, to in pieces} | {to for _, to in routes}
+
+    def needs(start, size, inside, held):
+        """The same for the block from this start on, for each inherited hop; the spans and routes are those that overlap the block."""
+        block = start, start + size - 1
+        own = {to for span, to in held if span == block}
+        held = [(span, to) for span, to in held if span != block]
         covered = inside[0][2] if inside else None
-        if not inside or (inside[0][0] <= start and start + size <= inside[0][1]):
-            return {hop: int(hop != covered) for hop in hops}
-        middle = start + size // 2
-        low = needs(start, size // 2, [piece for piece in inside if piece[0] < middle])
-        high = needs(middle, size // 2, [piece for piece in inside if piece[1] > middle])
-        both = {hop: low[hop] + high[hop] for hop in hops}
-        with_one = 1 + min(both.values())
-        return {hop: min(both[hop], with_one) for hop in hops}
+        if not held and (not inside or inside[0][0] <= start and start + size <= inside[0][1]):
+            # (with another hop from above, both halves would need an install)
+            both = {hop: 0 if hop == covered else 2 for hop in hops}
+        else:
+            middle = start + size // 2
+            low = needs(start, size // 2, [piece for piece in inside if piece[0] < middle], [it for it in held if it[0][1] < middle])
+            high = needs(middle, size // 2, [piece for piece in inside if piece[1] > middle], [it for it in held if it[0][0] >= middle])
+            both = {hop: low[hop] + high[hop] for hop in hops}
+        anyway = min(1 + min(both.values()), *(both[to] for to in own), 1 << width)
+        return {hop: min(len(own) + both[hop], anyway) for hop in hops}
 
-    return needs(0, 1 << width, pieces)[None]
+    return needs(0, 1 << width, pieces, routes)[None]
 
 
 def expected(stream):
