@@ -31,23 +31,9 @@ fn in_memory(rt: HostRuntime) -> Result<(), Fail> {
     Ok(())
 }
 
-/// Up to 256 changes are carried out one by one.
+/// 257 changes take two operations, since 256 of them fill a network.
 #[test]
 fn many_changes(rt: HostRuntime) {
-    let input = lines(&rt, rt.alloc(), "sync\n", "set", 256);
-    let wanted = lines(&rt, rt.alloc(), "ok\n", "install", 256);
-    gives(
-        &rt,
-        rt.alloc(),
-        (Mode::Install, input.as_str()),
-        wanted.as_str(),
-        Ok(()),
-    );
-}
-
-/// More than 256 changes lead to a least table at once.
-#[test]
-fn very_many_changes(rt: HostRuntime) {
     let input = lines(&rt, rt.alloc(), "sync\n", "set", 257);
     let wanted = "ok\ninstall 10.0.1.0/32 1\ninstall 10.0.0.0/24 1\nok\n";
     gives(
@@ -57,6 +43,23 @@ fn very_many_changes(rt: HostRuntime) {
         wanted,
         Ok(()),
     );
+}
+
+/// Both halves of a network change: one operation. Then the table is a least one, so a `sync` gives an empty batch.
+#[test]
+fn two_halves(rt: HostRuntime) {
+    let input = "sync\nset 10.0.0.0/8 1\nok\nset 10.0.0.0/9 2\nset 10.128.0.0/9 2\nok\nsync\n";
+    let wanted = "ok\ninstall 10.0.0.0/8 1\nok\ninstall 10.0.0.0/8 2\nok\nok\n";
+    gives(&rt, rt.alloc(), (Mode::Install, input), wanted, Ok(()));
+}
+
+/// A reply turns the hop of a half back to that of the network: its route goes, and no other is installed.
+#[test]
+fn a_half_goes_back(rt: HostRuntime) {
+    let input = "sync\nset 10.0.0.0/8 1\nok\nset 10.0.0.0/9 2\nok\nset 10.0.0.0/9 1\nok\nsync\n";
+    let wanted =
+        "ok\ninstall 10.0.0.0/8 1\nok\ninstall 10.0.0.0/9 2\nok\nremove 10.0.0.0/9\nok\nok\n";
+    gives(&rt, rt.alloc(), (Mode::Install, input), wanted, Ok(()));
 }
 
 /// Lines, and the answers of one table that keeps the changes. The last line has 81 bytes.
