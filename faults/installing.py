@@ -1,9 +1,10 @@
-"""What an installer has to write for its input, worked out from docs/ROUTES_FIB.md alone. Several tables may be least, so its output is
-looked at batch by batch: whichever table a batch of a `sync` makes, it has to be one of these, and made in the order that is told."""
+"""What an installer has to write for its input, worked out from docs/ROUTES_FIB.md alone. Several tables may be least, and several may take
+the fewest operations. So its output is looked at batch by batch: whichever table a batch makes, it has to be one of these, and made in the
+order that is told."""
 from model import change, fewest, hop, network, painted, written
 
-MOST = 256
 WIDTHS = (32, 128)
+TOO_MANY = 1 << 62
 
 
 def order(net):
@@ -42,10 +43,55 @@ def handed(table, net):
     return table[min(outside, key=lambda other: other[2] - other[1])] if outside else None
 
 
-def changed(table, net, to):
-    """The table after a block gets another hop."""
-    new = {other: held for other, held in table.items() if not inside(other, net)}
-    return new if handed(new, net) == to else {**new, net: to}
+def around(nets):
+    """The smallest block that contains these networks of one family."""
+    width, first, last = nets[0][0], min(net[1] for net in nets), max(net[2] for net in nets)
+    bits = (first ^ last).bit_length()
+    return width, first >> bits << bits, ((last >> bits) + 1 << bits) - 1
+
+
+def costs(routes, spans, block, hops):
+    """The fewest operations inside a block that give its addresses these hops, by the hop that the block inherits. The routes are those
+    that are installed inside, and the spans cover the block."""
+    width, first, last = block
+    if not routes and len(spans) == 1:
+        return {to: int(to != spans[0][2]) for to in hops}
+    if first == last:
+        below = {to: 0 if to == spans[0][2] else TOO_MANY for to in hops}
+    else:
+        middle = (first + last) // 2
+        halves = [costs({net: to for net, to in routes.items() if inside(net, half) and net != block},
+                        [span for span in spans if span[0] <= half[2] and half[1] < span[1]], half, hops)
+                  for half in ((width, first, middle), (width, middle + 1, last))]
+        below = {to: halves[0][to] + halves[1][to] for to in hops}
+    other = 1 + min(below.values())
+    if block in routes:
+        return dict.fromkeys(hops, min(below[routes[block]], other))
+    return {to: min(below[to], other) for to in hops}
+
+
+def covering(spans, block):
+    """The spans inside the block, and those of its addresses without a hop."""
+    found, at = [], block[1]
+    for start, end, to in spans:
+        if start <= block[2] and block[1] < end:
+            found += [[at, start, None]] if at < start else []
+            found.append([start, end, to])
+            at = end
+    return found + ([[at, block[2] + 1, None]] if at <= block[2] else [])
+
+
+def fewest_operations(table, told, changes):
+    """How many operations the table needs to have the hops that are told now. It has them outside these changes."""
+    count = 0
+    for width in WIDTHS:
+        nets = [net for net, _ in changes if net[0] == width]
+        if nets:
+            block = around(nets)
+            routes = {net: to for net, to in table.items() if inside(net, block)}
+            spans, down = covering(painted(told, width), block), handed(table, block)
+            count += costs(routes, spans, block, {down, *routes.values(), *(to for _, _, to in spans)})[down]
+    return count
 
 
 def after(table, batch):
@@ -62,11 +108,15 @@ def after(table, batch):
     return table
 
 
+def has_hops(table, told):
+    """Whether the table has the hops after these changes."""
+    routes = sorted(table.items(), key=lambda route: route[0][1] - route[0][2])
+    return all(painted(routes, width) == painted(told, width) for width in WIDTHS)
+
+
 def is_least(table, told):
     """Whether the table has the hops after these changes, and no table with these hops has fewer routes."""
-    routes = sorted(table.items(), key=lambda route: route[0][1] - route[0][2])
-    return all(painted(routes, width) == painted(told, width) and sum(net[0] == width for net in table) == fewest(told, width)
-               for width in WIDTHS)
+    return has_hops(table, told) and all(sum(net[0] == width for net in table) == fewest(told, width) for width in WIDTHS)
 
 
 def note(line):
@@ -89,30 +139,30 @@ class Installed:
     def __init__(self, batches):
         self.table, self.told, self.waiting, self.kept, self.batches = {}, [], [], False, batches
 
-    def least(self):
-        """The next batch makes a least table, and has the operations between both tables."""
+    def batch(self):
+        """The next batch, and the table that it makes. It has the operations between both tables."""
         batch = self.batches.pop(0)
         new = after(self.table, batch)
-        if batch != between(self.table, new) or not is_least(new, self.told):
+        if batch != between(self.table, new):
             raise ValueError
-        self.table = new
+        return batch, new
 
-    def each(self):
-        """The next batch carries out the pending changes, one by one."""
-        wanted = []
-        for net, to in self.waiting:
-            new = changed(self.table, net, to)
-            wanted += between(self.table, new)
-            self.table = new
-        if self.batches.pop(0) != wanted:
+    def sync(self):
+        """The next batch makes a least table. A table that is kept and is a least one stays."""
+        batch, new = self.batch()
+        if not is_least(new, self.told) or batch and self.kept and is_least(self.table, self.told):
             raise ValueError
+        self.table, self.kept = new, True
 
     def commit(self):
-        self.told += self.waiting
-        if self.kept and len(self.waiting) > MOST:
-            self.least()
-        elif self.kept and self.waiting:
-            self.each()
+        """The next batch has the fewest operations, if there are changes and the table is kept."""
+        told = self.told + self.waiting
+        self.told = [((width, start, end - 1), to) for width in WIDTHS for start, end, to in painted(told, width)]
+        if self.kept and self.waiting:
+            batch, new = self.batch()
+            if not has_hops(new, self.told) or len(batch) != fewest_operations(self.table, self.told, self.waiting):
+                raise ValueError
+            self.table = new
         self.waiting = []
 
     def take(self, kind, what):
@@ -121,8 +171,7 @@ class Installed:
         elif kind == "change":
             self.waiting.append(what)
         elif kind == "sync":
-            self.least()
-            self.kept = True
+            self.sync()
         elif what == b"ok":
             self.commit()
         elif what in (b"none", b"bad", b"refused"):
