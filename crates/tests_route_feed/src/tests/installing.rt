@@ -59,6 +59,23 @@ fn one_more_address(rt: HostRuntime) {
     );
 }
 
+/// Both halves of a network change: one operation. Then the table is a least one, so a `sync` gives an empty batch.
+#[test]
+fn two_halves(rt: HostRuntime) {
+    let input = "sync\nset 10.0.0.0/8 1\nok\nset 10.0.0.0/9 2\nset 10.128.0.0/9 2\nok\nsync\n";
+    let wanted = "ok\ninstall 10.0.0.0/8 1\nok\ninstall 10.0.0.0/8 2\nok\nok\n";
+    gives(&rt, rt.alloc(), (Mode::Install, input), wanted, Ok(()));
+}
+
+/// A reply turns the hop of a half back to that of the network: its route goes, and no other is installed.
+#[test]
+fn a_half_goes_back(rt: HostRuntime) {
+    let input = "sync\nset 10.0.0.0/8 1\nok\nset 10.0.0.0/9 2\nok\nset 10.0.0.0/9 1\nok\nsync\n";
+    let wanted =
+        "ok\ninstall 10.0.0.0/8 1\nok\ninstall 10.0.0.0/9 2\nok\nremove 10.0.0.0/9\nok\nok\n";
+    gives(&rt, rt.alloc(), (Mode::Install, input), wanted, Ok(()));
+}
+
 /// Lines, and the answers of one table that keeps the changes. The last line has 81 bytes.
 const ANSWERS: [(&str, &str); 4] = [
     ("add 10.0.0.0/8 1", "set 10.0.0.0/8 1\nok\n"),
