@@ -255,7 +255,10 @@ class Session:
 
 DRAWN = random.Random(1)
 HOPS = (1, 2, 3, 4)
-MOST_TIME, MOST_MEMORY = 40, 4096  # us of the processor for an operation, on a busy machine, and kB
+LONG = 120  # seconds that a program has for a change, on a busy machine
+MOST_MEMORY = 4096  # kB
+MOST_TIME, MOST_TIME_BUSY = 10, 40  # us of the processor for an operation
+LEAST_SINGLE, LEAST_LARGE = 50000, 100000  # operations a second, each in a batch of its own, and all in one batch
 
 
 def networks(count):
@@ -461,7 +464,7 @@ def kept(own, hops, log, folder, *families):
             print(f"said: {line}")
 
 
-def wait_for(what, holds, seconds=30):
+def wait_for(what, holds, seconds=LONG):
     for _ in range(10 * seconds):
         if holds():
             return
@@ -650,6 +653,9 @@ class Small:
     def ip(self, line):
         tool("ip", "-n", self.own, *line.split())
 
+    def starts(self):
+        return self.said.read_text().count("it begins again")
+
     def hops_of(self, *addresses):
         return self.asked.ask([packed(address) for address in addresses])
 
@@ -718,9 +724,10 @@ def check_events(folder):
                       ("link set far down", "link set far up", nexthop), ("route del 10.1.0.0/16 table 77",),
                       ("route replace 10.1.0.0/16 via 192.0.2.2 dev lan table 77 proto 77",)):
             chain.wait(_1=1, _2=2)
+            before = chain.starts()
             for line in lines:
                 chain.ip(line)
-            time.sleep(0.2)
+            wait_for(f"a new start after {lines[0]}", lambda: chain.starts() > before)
             chain.wait(_1=1, _2=2)
 
 
@@ -771,7 +778,7 @@ def check_permission(folder):
     Path(folder, "none").write_text("")
     with namespace() as own:
         words = ["setpriv", "--bounding-set", "-all", "--inh-caps", "-all", sys.argv[0], "keep", f"{folder}/none", "77", f"{folder}/none"]
-        done = subprocess.run([*inside(own), *words], capture_output=True, text=True, timeout=10)
+        done = subprocess.run([*inside(own), *words], capture_output=True, text=True, timeout=LONG)
         same("`keep` without the permission", [done.returncode, "CAP_NET_ADMIN" in done.stderr], [1, True])
 
 
@@ -810,7 +817,7 @@ def check_ends(own, command):
         process = subprocess.Popen(command, stdin=subprocess.PIPE, stdout=subprocess.PIPE, text=True)
         same("the list", [process.stdout.readline(), process.stdout.readline()], ["have 10.1.0.0/16 1\n", "ok\n"])
         process.send_signal(number)
-        same("the status after a signal", process.wait(5), 0)
+        same("the status after a signal", process.wait(LONG), 0)
     given = ["sh", "-c", 'exec 3<&0; "$@" <&3 & echo $!; wait', "sh", *command]
     shell = subprocess.Popen(given, stdin=subprocess.PIPE, stdout=subprocess.PIPE, text=True)
     lines = [shell.stdout.readline() for _ in range(3)]
@@ -828,13 +835,13 @@ def check_own(folder):
     with namespace(*LAN) as own:
         command = [*inside(own), FIB_KERNEL, "watch", hops, "77"]
         process = subprocess.Popen(command, stdin=subprocess.PIPE, stdout=subprocess.PIPE, stderr=subprocess.PIPE, text=True)
-        process.stdin.write(text([f"install 10.{at >> 8}.{at & 255}.0/24 1" for at in range(20000)] + ["ok"]))
-        process.stdin.flush()
-        same("the list and a batch", [process.stdout.readline(), process.stdout.readline()], ["ok\n", "ok\n"])
-        time.sleep(0.2)
-        same("the program after its own changes", process.poll(), None)
+        same("the list", process.stdout.readline(), "ok\n")
+        for lines in ([f"install 10.{at >> 8}.{at & 255}.0/24 1" for at in range(20000)], []):  # it looks at events before each input
+            process.stdin.write(text([*lines, "ok"]))
+            process.stdin.flush()
+            same("the end of a batch", process.stdout.readline(), "ok\n")
         tool("ip", "-n", own, "route", "del", "10.0.7.0/24", "table", "77")
-        same("the end after a foreign change", [process.wait(5), process.stderr.read()],
+        same("the end after a foreign change", [process.wait(LONG), process.stderr.read()],
              [3, "fib_kernel: the table 77 was changed from outside\n"])
         kernel = Kernel(own, hops)
         for line in ("link del lan", again, "link set far up", "link set lan up"):
@@ -917,8 +924,17 @@ def measured(own, hops, family, by, count, runs):
             for title, costs in found.items()}
 
 
-def figures(folder, runs):
-    """Prints the costs of fib_kernel, the least of so many runs, and those of `ip`, of one run."""
+def is_cheap(title, one, is_busy):
+    """Whether these costs are those that recipes/live.md names. On a busy machine the clock does not count."""
+    least = 0 if is_busy else LEAST_SINGLE if title.startswith("single") else LEAST_LARGE
+    most = MOST_TIME_BUSY if is_busy else MOST_TIME
+    return one.processor <= most and one.memory <= MOST_MEMORY and 1e6 / one.clock >= least
+
+
+def figures(folder, runs, is_busy):
+    """Prints the costs of fib_kernel, the least of so many runs, and those of `ip`, of one run. Fails if those of fib_kernel are too
+    great."""
+    dear = []
     hops = f"{folder}/few"
     Path(hops).write_text(text(f"{hop} via fe80::{hop} dev lan" for hop in HOPS))
     print(f"| load {load()} | us, fib_kernel | user | system | per s | kB | us, ip | kB |\n|---|---|---|---|---|---|---|---|")
@@ -929,9 +945,9 @@ def figures(folder, runs):
                 other = theirs[title]
                 print(f"| IPv{family}, {title} | {one.processor:.1f} | {one.user:.1f} | {one.system:.1f} | {1e6 / one.clock:,.0f} | "
                       f"{one.memory:,} | {other.processor:,.1f} | {'' if 'single' in title else f'{other.memory:,}'} |", flush=True)
-                if one.processor > MOST_TIME or one.memory > MOST_MEMORY:
-                    fault(f"more than {MOST_TIME} us or {MOST_MEMORY} kB")
+                dear += [] if is_cheap(title, one, is_busy) else [f"IPv{family}, {title}"]
     print(f"least of {runs} runs of fib_kernel; load {load()} on {os.cpu_count()} processors")
+    same("too slow, or too much memory", dear, [])
 
 
 def load():
@@ -940,7 +956,7 @@ def load():
 
 def check_measures(folder):
     """the processor's time for an operation, and the memory"""
-    figures(folder, 1)
+    figures(folder, 1, True)
 
 
 def check_memory(folder):
@@ -959,12 +975,14 @@ def check_memory(folder):
         process.stdin.write(text([*given, "ok"]).encode())
         process.stdin.flush()
         same("the end of a batch", process.stdout.readline(), b"ok\n")
+        most = peak(process.pid)
+        same("less memory than 4 MB", most < MOST_MEMORY, True)
         expected = {f"have {net} {'drop' if at % 4 == 0 else 1 + at % 4}" for at, net in enumerate(nets)}
         found = tool(*command, "list", hops, "77").splitlines()
         same("the list", [len(found), set(found) - {"ok"} == expected], [len(nets) + 1, True])
         tool("ip", "-n", own, "route", "add", "203.0.113.1", "dev", "lan")
-        same("the status once more installs are taken than the list has", process.wait(30), 3)
-        print(f"{len(nets):,} installs, of which {len(nets) // 4:,} were refused: status 3 once the kernel takes them")
+        same("the status once more installs are taken than the list has", process.wait(LONG), 3)
+        print(f"{len(nets):,} installs, of which {len(nets) // 4:,} were refused, in {most:,} kB: status 3 once the kernel takes them")
 
 
 def check(is_figures):
@@ -972,7 +990,7 @@ def check(is_figures):
     needs(FIB_KERNEL, "libmnl-dev, after which `make -C netlink` builds it,")
     if is_figures:
         with tempfile.TemporaryDirectory() as folder:
-            return figures(folder, 10)
+            return figures(folder, 10, False)
     needs("birdc", "bird2")
     with tempfile.TemporaryDirectory() as folder:
         hops = f"{folder}/hops"
