@@ -55,10 +55,7 @@ class Kernel:
         return have
 
     def carry_out(self, batch):
-        """Once its `ok` has come back."""
-        self.process.stdin.write(text([*batch, "ok"]))
-        self.process.stdin.flush()
-        same("the end of a batch", self.process.stdout.readline(), "ok\n")
+        carry_out(self.process, *batch)
 
     def close(self):
         self.process.stdin.close()
@@ -773,6 +770,40 @@ def check_sandbox(folder):
             same(f"`{mode}` with sockets of netlink alone", [done.returncode, done.stdout, done.stderr], [0, wanted, ""])
 
 
+def check_options(folder):
+    """default routes, a table above 255, and routes of another protocol"""
+    hops = f"{folder}/way"
+    Path(hops).write_text("1 via 192.0.2.1 dev lan\n")
+    have = "have 0.0.0.0/0 drop\nhave 10.1.0.0/16 1\nhave 2001:db8::/32 drop\nhave ::/0 drop\nok\n"
+    with namespace(*LAN) as own:
+        command = [*inside(own), FIB_KERNEL]
+        for words, given, wanted in (("load -p 50", have.replace("have", "install"), "ok\n"), ("list -p 50", "", have),
+                                     ("list -p 51", "", "ok\n"), ("load -p 51", "remove 10.1.0.0/16\nok\n", "ok\n"),
+                                     ("list -p 50", "", have)):
+            same(words, tool(*command, *words.split(), hops, "1000", given=given), wanted)
+        told = tool("ip", "-n", own, "route", "show", "10.1.0.0/16", "table", "1000").strip()
+        same("the route", told, "10.1.0.0/16 via 192.0.2.1 dev lan proto 50")
+
+
+def check_tries(folder):
+    """refused installs are tried again with the hop that came last, but not after a removal or another install, and not with `-r 0`"""
+    hops = f"{folder}/way"
+    Path(hops).write_text("1 via 192.0.2.1 dev lan\n2 via 203.0.113.2 dev lan\n3 via 203.0.113.3 dev lan\n")
+    given = ["install 10.1.0.0/16 2", "install 10.2.0.0/16 2", "install 10.3.0.0/16 2", "install 10.4.0.0/16 2",
+             "remove 10.2.0.0/16", "install 10.3.0.0/16 1", "install 10.4.0.0/16 3"]
+    with namespace(*LAN) as own:
+        command = [*inside(own), FIB_KERNEL]
+        tries = [subprocess.Popen([*command, "load", "-r", pause, hops, table], stdin=subprocess.PIPE, stdout=subprocess.PIPE,
+                                  stderr=subprocess.DEVNULL, text=True) for pause, table in (("0", "77"), ("1", "78"))]
+        for process in tries:
+            carry_out(process, *given)
+        tool("ip", "-n", own, "route", "add", "203.0.113.0/24", "dev", "lan")
+        wait_for("another try", lambda: "10.4.0.0/16 3" in tool(*command, "list", hops, "78"))
+        for table, (one, four) in (("77", ("drop", "drop")), ("78", ("2", "3"))):
+            same("the list", tool(*command, "list", hops, table), f"have 10.1.0.0/16 {one}\nhave 10.3.0.0/16 1\nhave 10.4.0.0/16 {four}\nok\n")
+        same("the end of both", [(process.communicate()[0], process.returncode) for process in tries], [("", 1), ("", 0)])
+
+
 def check_permission(folder):
     """without the permission `keep` ends at once, though there is nothing to change"""
     Path(folder, "none").write_text("")
@@ -785,7 +816,7 @@ def check_permission(folder):
 WRONG_HOPS = ("1 192.0.2.1", "1 via 192.0.2.1", "1 via 192.0.2.300 dev lan", "1 dev lan src 192.0.2.1", "1", "", "x dev lan",
               "4294967295 dev lan", "1 dev lan\r", "1 dev lan\n1 dev far", "1 nexthop dev lan nexthop weight 2")
 WRONG_LINES = ("", "set 10.0.0.0/8 1", "install 10.0.0.0/8", "install 10.0.0.0/33 1", "install 10.0.0.0 1", "remove 10.0.0.0/8 1",
-               "install 10.0.0.0/8 4294967296", "install 10.0.0.0/8 1 2", "install 10.0.0/8 drop", "x" * 70000)
+               "install 10.0.0.0/8 4294967296", "install 10.0.0.0/8 1 2", "install 10.0.0/8 drop", "install 10.0.0.1/8 1", "x" * 70000)
 
 
 def check_lines(folder):
@@ -800,7 +831,8 @@ def check_lines(folder):
         for line in WRONG_LINES:
             print("refused:", refused(*command, "load", str(hops), "77", given=f"{line}\n")[:100])
         print("refused:", refused(*command, "list", f"{folder}/nosuch", "77").replace(folder, "folder"))
-        print("refused:", refused(*command, "load", str(hops), "1000"))
+        for words in (("77", "-p", "0"), ("77", "-p", "256"), ("77", "-r", "x"), ("0",), ("4294967296",), ("1000",)):
+            print("refused:", refused(*command, "load", str(hops), *words))
         same("the usage", tool(FIB_KERNEL, "--help").startswith("usage: fib_kernel"), True)
         same("no arguments", subprocess.run([FIB_KERNEL], capture_output=True).returncode, 2)
         same("a batch that is cut off", tool(*command, "load", str(hops), "77", given="install 10.1.0.0/16 1\nremove 10.1."), "")
@@ -829,22 +861,47 @@ def check_ends(own, command):
 
 
 def check_own(folder):
-    """changes of its own are no event; a foreign one after 20,000 of its own is; a link that was made again has another index"""
-    hops, again = f"{folder}/own", "link add lan type veth peer name far"
+    """changes of its own and of other tables and links are no events; a foreign one after them is; and so are events that were lost"""
+    hops, lost = f"{folder}/own", [f"address {word} 203.0.113.{at}/32 dev far" for at in range(1, 255) for word in ("add", "del")] * 8
     Path(hops).write_text("1 dev lan\n")
     with namespace(*LAN) as own:
-        command = [*inside(own), FIB_KERNEL, "watch", hops, "77"]
-        process = subprocess.Popen(command, stdin=subprocess.PIPE, stdout=subprocess.PIPE, stderr=subprocess.PIPE, text=True)
-        same("the list", process.stdout.readline(), "ok\n")
-        for lines in ([f"install 10.{at >> 8}.{at & 255}.0/24 1" for at in range(20000)], []):  # it looks at events before each input
-            process.stdin.write(text([*lines, "ok"]))
-            process.stdin.flush()
-            same("the end of a batch", process.stdout.readline(), "ok\n")
+        process = watching(own, hops)
+        carry_out(process, *(f"install 10.{at >> 8}.{at & 255}.0/24 1" for at in range(20000)))
+        for line in ("route add 10.0.7.0/24 dev lan table 78", "link set far mtu 1400", *lost[:2]):
+            tool("ip", "-n", own, *line.split())
+        carry_out(process)  # it looks at events before each input
         tool("ip", "-n", own, "route", "del", "10.0.7.0/24", "table", "77")
-        same("the end after a foreign change", [process.wait(LONG), process.stderr.read()],
-             [3, "fib_kernel: the table 77 was changed from outside\n"])
+        same("a foreign change", [process.wait(LONG), process.stderr.read()], [3, "fib_kernel: the table 77 was changed from outside\n"])
+        tool("ip", "-n", own, "route", "flush", "table", "77")
+        process = watching(own, hops)
+        process.send_signal(signal.SIGSTOP)
+        tool("ip", "-n", own, "-batch", "-", given=text(lost))
+        process.send_signal(signal.SIGCONT)
+        same("lost events", [process.wait(LONG), process.stderr.read()], [3, "fib_kernel: events were lost: No buffer space available\n"])
+
+
+def watching(own, hops):
+    """`fib_kernel watch`, once it has listed an empty table."""
+    process = subprocess.Popen([*inside(own), FIB_KERNEL, "watch", hops, "77"], stdin=subprocess.PIPE, stdout=subprocess.PIPE,
+                               stderr=subprocess.PIPE, text=True)
+    same("the list", process.stdout.readline(), "ok\n")
+    return process
+
+
+def carry_out(process, *lines):
+    """A batch of these operations, until its `ok` has come back."""
+    process.stdin.write(text([*lines, "ok"]))
+    process.stdin.flush()
+    same("the end of a batch", process.stdout.readline(), "ok\n")
+
+
+def check_made_again(folder):
+    """a link that was made again has another index"""
+    hops = f"{folder}/own"
+    Path(hops).write_text("1 dev lan\n")
+    with namespace(*LAN) as own:
         kernel = Kernel(own, hops)
-        for line in ("link del lan", again, "link set far up", "link set lan up"):
+        for line in ("link del lan", "link add lan type veth peer name far", "link set far up", "link set lan up"):
             tool("ip", "-n", own, *line.split())
         kernel.carry_out(["install 10.1.0.0/16 1"])
         same("the list", kernel.have(), ["have 10.1.0.0/16 1"])
@@ -995,8 +1052,8 @@ def check(is_figures):
     with tempfile.TemporaryDirectory() as folder:
         hops = f"{folder}/hops"
         check_page(folder)
-        for one in (check_lines, check_refused, check_silent, check_events, check_shorter, check_families, check_sandbox, check_permission,
-                    check_own, check_memory, check_measures):
+        for one in (check_lines, check_refused, check_silent, check_events, check_shorter, check_families, check_sandbox, check_options,
+                    check_tries, check_permission, check_own, check_made_again, check_memory, check_measures):
             one(folder)
             print(f"seen: {one.__doc__}")
         Path(hops).write_text(text(f"{hop} via fe80::{hop} dev lan" for hop in HOPS))
