@@ -981,6 +981,18 @@ def measured(own, hops, family, by, count, runs):
             for title, costs in found.items()}
 
 
+@contextlib.contextmanager
+def one_processor():
+    """This thread, and the processes that it starts, are held on one processor: they need not wake another one, which costs a virtual
+    machine some microseconds."""
+    before = os.sched_getaffinity(0)
+    os.sched_setaffinity(0, {max(before)})
+    try:
+        yield
+    finally:
+        os.sched_setaffinity(0, before)
+
+
 def is_cheap(title, one, is_busy):
     """Whether these costs are those that recipes/live.md names. On a busy machine the clock does not count."""
     least = 0 if is_busy else LEAST_SINGLE if title.startswith("single") else LEAST_LARGE
@@ -995,7 +1007,7 @@ def figures(folder, runs, is_busy):
     hops = f"{folder}/few"
     Path(hops).write_text(text(f"{hop} via fe80::{hop} dev lan" for hop in HOPS))
     print(f"| load {load()} | us, fib_kernel | user | system | per s | kB | us, ip | kB |\n|---|---|---|---|---|---|---|---|")
-    with namespace() as own:
+    with namespace() as own, one_processor():
         for family in (4, 6):
             ours, theirs = measured(own, hops, family, by_netlink, 10000, runs), measured(own, hops, family, by_ip, 500, 1)
             for title, one in ours.items():
