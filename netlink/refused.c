@@ -131,8 +131,10 @@ bool has_refused(void)
 
 int next_try(void)
 {
+    if (!has_refused() || !longest)
+        return -1;
     int64_t rest = due - now();
-    return !has_refused() || !longest ? -1 : rest > 0 ? (int)rest : 0;
+    return rest > 0 ? (int)rest : 0;
 }
 
 void try_soon(void)

@@ -55,10 +55,7 @@ class Kernel:
         return have
 
     def carry_out(self, batch):
-        """Once its `ok` has come back."""
-        self.process.stdin.write(text([*batch, "ok"]))
-        self.process.stdin.flush()
-        same("the end of a batch", self.process.stdout.readline(), "ok\n")
+        carry_out(self.process, *batch)
 
     def close(self):
         self.process.stdin.close()
@@ -255,7 +252,10 @@ class Session:
 
 DRAWN = random.Random(1)
 HOPS = (1, 2, 3, 4)
-MOST_TIME, MOST_MEMORY = 40, 4096  # us of the processor for an operation, on a busy machine, and kB
+LONG = 120  # seconds that a program has for a change, on a busy machine
+MOST_MEMORY = 4096  # kB
+MOST_TIME, MOST_TIME_BUSY = 10, 40  # us of the processor for an operation
+LEAST_SINGLE, LEAST_LARGE = 50000, 100000  # operations a second, each in a batch of its own, and all in one batch
 
 
 def networks(count):
@@ -461,7 +461,7 @@ def kept(own, hops, log, folder, *families):
             print(f"said: {line}")
 
 
-def wait_for(what, holds, seconds=30):
+def wait_for(what, holds, seconds=LONG):
     for _ in range(10 * seconds):
         if holds():
             return
@@ -650,6 +650,9 @@ class Small:
     def ip(self, line):
         tool("ip", "-n", self.own, *line.split())
 
+    def starts(self):
+        return self.said.read_text().count("it begins again")
+
     def hops_of(self, *addresses):
         return self.asked.ask([packed(address) for address in addresses])
 
@@ -718,9 +721,10 @@ def check_events(folder):
                       ("link set far down", "link set far up", nexthop), ("route del 10.1.0.0/16 table 77",),
                       ("route replace 10.1.0.0/16 via 192.0.2.2 dev lan table 77 proto 77",)):
             chain.wait(_1=1, _2=2)
+            before = chain.starts()
             for line in lines:
                 chain.ip(line)
-            time.sleep(0.2)
+            wait_for(f"a new start after {lines[0]}", lambda: chain.starts() > before)
             chain.wait(_1=1, _2=2)
 
 
@@ -766,19 +770,53 @@ def check_sandbox(folder):
             same(f"`{mode}` with sockets of netlink alone", [done.returncode, done.stdout, done.stderr], [0, wanted, ""])
 
 
+def check_options(folder):
+    """default routes, a table above 255, and routes of another protocol"""
+    hops = f"{folder}/way"
+    Path(hops).write_text("1 via 192.0.2.1 dev lan\n")
+    have = "have 0.0.0.0/0 drop\nhave 10.1.0.0/16 1\nhave 2001:db8::/32 drop\nhave ::/0 drop\nok\n"
+    with namespace(*LAN) as own:
+        command = [*inside(own), FIB_KERNEL]
+        for words, given, wanted in (("load -p 50", have.replace("have", "install"), "ok\n"), ("list -p 50", "", have),
+                                     ("list -p 51", "", "ok\n"), ("load -p 51", "remove 10.1.0.0/16\nok\n", "ok\n"),
+                                     ("list -p 50", "", have)):
+            same(words, tool(*command, *words.split(), hops, "1000", given=given), wanted)
+        told = tool("ip", "-n", own, "route", "show", "10.1.0.0/16", "table", "1000").strip()
+        same("the route", told, "10.1.0.0/16 via 192.0.2.1 dev lan proto 50")
+
+
+def check_tries(folder):
+    """refused installs are tried again with the hop that came last, but not after a removal or another install, and not with `-r 0`"""
+    hops = f"{folder}/way"
+    Path(hops).write_text("1 via 192.0.2.1 dev lan\n2 via 203.0.113.2 dev lan\n3 via 203.0.113.3 dev lan\n")
+    given = ["install 10.1.0.0/16 2", "install 10.2.0.0/16 2", "install 10.3.0.0/16 2", "install 10.4.0.0/16 2",
+             "remove 10.2.0.0/16", "install 10.3.0.0/16 1", "install 10.4.0.0/16 3"]
+    with namespace(*LAN) as own:
+        command = [*inside(own), FIB_KERNEL]
+        tries = [subprocess.Popen([*command, "load", "-r", pause, hops, table], stdin=subprocess.PIPE, stdout=subprocess.PIPE,
+                                  stderr=subprocess.DEVNULL, text=True) for pause, table in (("0", "77"), ("1", "78"))]
+        for process in tries:
+            carry_out(process, *given)
+        tool("ip", "-n", own, "route", "add", "203.0.113.0/24", "dev", "lan")
+        wait_for("another try", lambda: "10.4.0.0/16 3" in tool(*command, "list", hops, "78"))
+        for table, (one, four) in (("77", ("drop", "drop")), ("78", ("2", "3"))):
+            same("the list", tool(*command, "list", hops, table), f"have 10.1.0.0/16 {one}\nhave 10.3.0.0/16 1\nhave 10.4.0.0/16 {four}\nok\n")
+        same("the end of both", [(process.communicate()[0], process.returncode) for process in tries], [("", 1), ("", 0)])
+
+
 def check_permission(folder):
     """without the permission `keep` ends at once, though there is nothing to change"""
     Path(folder, "none").write_text("")
     with namespace() as own:
         words = ["setpriv", "--bounding-set", "-all", "--inh-caps", "-all", sys.argv[0], "keep", f"{folder}/none", "77", f"{folder}/none"]
-        done = subprocess.run([*inside(own), *words], capture_output=True, text=True, timeout=10)
+        done = subprocess.run([*inside(own), *words], capture_output=True, text=True, timeout=LONG)
         same("`keep` without the permission", [done.returncode, "CAP_NET_ADMIN" in done.stderr], [1, True])
 
 
 WRONG_HOPS = ("1 192.0.2.1", "1 via 192.0.2.1", "1 via 192.0.2.300 dev lan", "1 dev lan src 192.0.2.1", "1", "", "x dev lan",
               "4294967295 dev lan", "1 dev lan\r", "1 dev lan\n1 dev far", "1 nexthop dev lan nexthop weight 2")
 WRONG_LINES = ("", "set 10.0.0.0/8 1", "install 10.0.0.0/8", "install 10.0.0.0/33 1", "install 10.0.0.0 1", "remove 10.0.0.0/8 1",
-               "install 10.0.0.0/8 4294967296", "install 10.0.0.0/8 1 2", "install 10.0.0/8 drop", "x" * 70000)
+               "install 10.0.0.0/8 4294967296", "install 10.0.0.0/8 1 2", "install 10.0.0/8 drop", "install 10.0.0.1/8 1", "x" * 70000)
 
 
 def check_lines(folder):
@@ -793,7 +831,8 @@ def check_lines(folder):
         for line in WRONG_LINES:
             print("refused:", refused(*command, "load", str(hops), "77", given=f"{line}\n")[:100])
         print("refused:", refused(*command, "list", f"{folder}/nosuch", "77").replace(folder, "folder"))
-        print("refused:", refused(*command, "load", str(hops), "1000"))
+        for words in (("77", "-p", "0"), ("77", "-p", "256"), ("77", "-r", "x"), ("0",), ("4294967296",), ("1000",)):
+            print("refused:", refused(*command, "load", str(hops), *words))
         same("the usage", tool(FIB_KERNEL, "--help").startswith("usage: fib_kernel"), True)
         same("no arguments", subprocess.run([FIB_KERNEL], capture_output=True).returncode, 2)
         same("a batch that is cut off", tool(*command, "load", str(hops), "77", given="install 10.1.0.0/16 1\nremove 10.1."), "")
@@ -810,7 +849,7 @@ def check_ends(own, command):
         process = subprocess.Popen(command, stdin=subprocess.PIPE, stdout=subprocess.PIPE, text=True)
         same("the list", [process.stdout.readline(), process.stdout.readline()], ["have 10.1.0.0/16 1\n", "ok\n"])
         process.send_signal(number)
-        same("the status after a signal", process.wait(5), 0)
+        same("the status after a signal", process.wait(LONG), 0)
     given = ["sh", "-c", 'exec 3<&0; "$@" <&3 & echo $!; wait', "sh", *command]
     shell = subprocess.Popen(given, stdin=subprocess.PIPE, stdout=subprocess.PIPE, text=True)
     lines = [shell.stdout.readline() for _ in range(3)]
@@ -822,22 +861,47 @@ def check_ends(own, command):
 
 
 def check_own(folder):
-    """changes of its own are no event; a foreign one after 20,000 of its own is; a link that was made again has another index"""
-    hops, again = f"{folder}/own", "link add lan type veth peer name far"
+    """changes of its own and of other tables and links are no events; a foreign one after them is; and so are events that were lost"""
+    hops, lost = f"{folder}/own", [f"address {word} 203.0.113.{at}/32 dev far" for at in range(1, 255) for word in ("add", "del")] * 8
     Path(hops).write_text("1 dev lan\n")
     with namespace(*LAN) as own:
-        command = [*inside(own), FIB_KERNEL, "watch", hops, "77"]
-        process = subprocess.Popen(command, stdin=subprocess.PIPE, stdout=subprocess.PIPE, stderr=subprocess.PIPE, text=True)
-        process.stdin.write(text([f"install 10.{at >> 8}.{at & 255}.0/24 1" for at in range(20000)] + ["ok"]))
-        process.stdin.flush()
-        same("the list and a batch", [process.stdout.readline(), process.stdout.readline()], ["ok\n", "ok\n"])
-        time.sleep(0.2)
-        same("the program after its own changes", process.poll(), None)
+        process = watching(own, hops)
+        carry_out(process, *(f"install 10.{at >> 8}.{at & 255}.0/24 1" for at in range(20000)))
+        for line in ("route add 10.0.7.0/24 dev lan table 78", "link set far mtu 1400", *lost[:2]):
+            tool("ip", "-n", own, *line.split())
+        carry_out(process)  # it looks at events before each input
         tool("ip", "-n", own, "route", "del", "10.0.7.0/24", "table", "77")
-        same("the end after a foreign change", [process.wait(5), process.stderr.read()],
-             [3, "fib_kernel: the table 77 was changed from outside\n"])
+        same("a foreign change", [process.wait(LONG), process.stderr.read()], [3, "fib_kernel: the table 77 was changed from outside\n"])
+        tool("ip", "-n", own, "route", "flush", "table", "77")
+        process = watching(own, hops)
+        process.send_signal(signal.SIGSTOP)
+        tool("ip", "-n", own, "-batch", "-", given=text(lost))
+        process.send_signal(signal.SIGCONT)
+        same("lost events", [process.wait(LONG), process.stderr.read()], [3, "fib_kernel: events were lost: No buffer space available\n"])
+
+
+def watching(own, hops):
+    """`fib_kernel watch`, once it has listed an empty table."""
+    process = subprocess.Popen([*inside(own), FIB_KERNEL, "watch", hops, "77"], stdin=subprocess.PIPE, stdout=subprocess.PIPE,
+                               stderr=subprocess.PIPE, text=True)
+    same("the list", process.stdout.readline(), "ok\n")
+    return process
+
+
+def carry_out(process, *lines):
+    """A batch of these operations, until its `ok` has come back."""
+    process.stdin.write(text([*lines, "ok"]))
+    process.stdin.flush()
+    same("the end of a batch", process.stdout.readline(), "ok\n")
+
+
+def check_made_again(folder):
+    """a link that was made again has another index"""
+    hops = f"{folder}/own"
+    Path(hops).write_text("1 dev lan\n")
+    with namespace(*LAN) as own:
         kernel = Kernel(own, hops)
-        for line in ("link del lan", again, "link set far up", "link set lan up"):
+        for line in ("link del lan", "link add lan type veth peer name far", "link set far up", "link set lan up"):
             tool("ip", "-n", own, *line.split())
         kernel.carry_out(["install 10.1.0.0/16 1"])
         same("the list", kernel.have(), ["have 10.1.0.0/16 1"])
@@ -917,21 +981,42 @@ def measured(own, hops, family, by, count, runs):
             for title, costs in found.items()}
 
 
-def figures(folder, runs):
-    """Prints the costs of fib_kernel, the least of so many runs, and those of `ip`, of one run."""
+@contextlib.contextmanager
+def one_processor():
+    """This thread, and the processes that it starts, are held on one processor: they need not wake another one, which costs a virtual
+    machine some microseconds."""
+    before = os.sched_getaffinity(0)
+    os.sched_setaffinity(0, {max(before)})
+    try:
+        yield
+    finally:
+        os.sched_setaffinity(0, before)
+
+
+def is_cheap(title, one, is_busy):
+    """Whether these costs are those that recipes/live.md names. On a busy machine the clock does not count."""
+    least = 0 if is_busy else LEAST_SINGLE if title.startswith("single") else LEAST_LARGE
+    most = MOST_TIME_BUSY if is_busy else MOST_TIME
+    return one.processor <= most and one.memory <= MOST_MEMORY and 1e6 / one.clock >= least
+
+
+def figures(folder, runs, is_busy):
+    """Prints the costs of fib_kernel, the least of so many runs, and those of `ip`, of one run. Fails if those of fib_kernel are too
+    great."""
+    dear = []
     hops = f"{folder}/few"
     Path(hops).write_text(text(f"{hop} via fe80::{hop} dev lan" for hop in HOPS))
     print(f"| load {load()} | us, fib_kernel | user | system | per s | kB | us, ip | kB |\n|---|---|---|---|---|---|---|---|")
-    with namespace() as own:
+    with namespace() as own, one_processor():
         for family in (4, 6):
             ours, theirs = measured(own, hops, family, by_netlink, 10000, runs), measured(own, hops, family, by_ip, 500, 1)
             for title, one in ours.items():
                 other = theirs[title]
                 print(f"| IPv{family}, {title} | {one.processor:.1f} | {one.user:.1f} | {one.system:.1f} | {1e6 / one.clock:,.0f} | "
                       f"{one.memory:,} | {other.processor:,.1f} | {'' if 'single' in title else f'{other.memory:,}'} |", flush=True)
-                if one.processor > MOST_TIME or one.memory > MOST_MEMORY:
-                    fault(f"more than {MOST_TIME} us or {MOST_MEMORY} kB")
+                dear += [] if is_cheap(title, one, is_busy) else [f"IPv{family}, {title}"]
     print(f"least of {runs} runs of fib_kernel; load {load()} on {os.cpu_count()} processors")
+    same("too slow, or too much memory", dear, [])
 
 
 def load():
@@ -940,7 +1025,7 @@ def load():
 
 def check_measures(folder):
     """the processor's time for an operation, and the memory"""
-    figures(folder, 1)
+    figures(folder, 1, True)
 
 
 def check_memory(folder):
@@ -959,12 +1044,14 @@ def check_memory(folder):
         process.stdin.write(text([*given, "ok"]).encode())
         process.stdin.flush()
         same("the end of a batch", process.stdout.readline(), b"ok\n")
+        most = peak(process.pid)
+        same("less memory than 4 MB", most < MOST_MEMORY, True)
         expected = {f"have {net} {'drop' if at % 4 == 0 else 1 + at % 4}" for at, net in enumerate(nets)}
         found = tool(*command, "list", hops, "77").splitlines()
         same("the list", [len(found), set(found) - {"ok"} == expected], [len(nets) + 1, True])
         tool("ip", "-n", own, "route", "add", "203.0.113.1", "dev", "lan")
-        same("the status once more installs are taken than the list has", process.wait(30), 3)
-        print(f"{len(nets):,} installs, of which {len(nets) // 4:,} were refused: status 3 once the kernel takes them")
+        same("the status once more installs are taken than the list has", process.wait(LONG), 3)
+        print(f"{len(nets):,} installs, of which {len(nets) // 4:,} were refused, in {most:,} kB: status 3 once the kernel takes them")
 
 
 def check(is_figures):
@@ -972,13 +1059,13 @@ def check(is_figures):
     needs(FIB_KERNEL, "libmnl-dev, after which `make -C netlink` builds it,")
     if is_figures:
         with tempfile.TemporaryDirectory() as folder:
-            return figures(folder, 10)
+            return figures(folder, 10, False)
     needs("birdc", "bird2")
     with tempfile.TemporaryDirectory() as folder:
         hops = f"{folder}/hops"
         check_page(folder)
-        for one in (check_lines, check_refused, check_silent, check_events, check_shorter, check_families, check_sandbox, check_permission,
-                    check_own, check_memory, check_measures):
+        for one in (check_lines, check_refused, check_silent, check_events, check_shorter, check_families, check_sandbox, check_options,
+                    check_tries, check_permission, check_own, check_made_again, check_memory, check_measures):
             one(folder)
             print(f"seen: {one.__doc__}")
         Path(hops).write_text(text(f"{hop} via fe80::{hop} dev lan" for hop in HOPS))

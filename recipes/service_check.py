@@ -15,6 +15,7 @@ from collections import Counter
 from pathlib import Path
 
 from common import FIB_KERNEL, HERE, PROGRAM, fault, is_number, needs, pass_over, refused, routes, same, tool
+from live_check import wait_for
 
 UNITS = ("lead", "keep", "mirror")
 ALONE = "JOLMIDDA_ALONE"
@@ -151,22 +152,25 @@ def check_full(folder):
     await_leader(folder, f"a full disk for 15 s, {source.waits} writes of the source refused")
 
 
+def metrics(run):
+    return dict(line.rsplit(" ", 1) for line in tool(sys.argv[0], "metrics", run).splitlines())
+
+
 def check_status(folder, run, daemons):
-    """The last lines, the metrics, and a daemon that doesn't run."""
-    time.sleep(2)
+    """The last lines, the metrics, and a daemon that doesn't run. The daemons write their states each second."""
+    level = {'jolmidda_lag_bytes{part="keep"}': "0", 'jolmidda_lag_seconds{part="keep"}': "0", 'jolmidda_rejected_total{part="lead"}': "0",
+             'jolmidda_replies_total{part="lead"}': str(Path(folder, "commands").read_text().count("\n"))}
+    level |= {f'jolmidda_up{{part="{unit}"}}': "1" for unit in UNITS}
+    wait_for(f"{level}", lambda: metrics(run).items() >= level.items())
     print(tool(sys.argv[0], "status", run), end="")
-    rows = dict(line.rsplit(" ", 1) for line in tool(sys.argv[0], "metrics", run).splitlines())
-    same("lag", [float(rows[f'jolmidda_lag_{unit}{{part="keep"}}']) for unit in ("bytes", "seconds")], [0, 0])
-    same("replies", int(rows['jolmidda_replies_total{part="lead"}']), Path(folder, "commands").read_text().count("\n"))
     daemons["keep"].end()
     with open(f"{folder}/commands", "a") as file:
         file.write("add 10.0.0.0/8 1\nnonsense\n")
-    time.sleep(7)
+    lost = {'jolmidda_up{part="keep"}': "0", 'jolmidda_up{part="lead"}': "1", 'jolmidda_rejected_total{part="lead"}': "1"}
+    wait_for(f"{lost}", lambda: metrics(run).items() >= lost.items())
     done = subprocess.run([sys.argv[0], "status", run], capture_output=True, text=True)
     same("the status without an installer", [done.returncode, "installer, DOESN'T RUN" in done.stdout, "`bad`" in done.stdout], [1, True, True])
-    rows = dict(line.rsplit(" ", 1) for line in tool(sys.argv[0], "metrics", run).splitlines())
-    same("the lag of an installer that doesn't run", float(rows['jolmidda_lag_seconds{part="keep"}']) > 5, True)
-    same("rejected commands", rows['jolmidda_rejected_total{part="lead"}'], "1")
+    same("the lag of an installer that doesn't run", float(metrics(run)['jolmidda_lag_seconds{part="keep"}']) > 4, True)
 
 
 def check_other_commands(folder, run, daemons):
