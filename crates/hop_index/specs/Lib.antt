@@ -1,3 +1,4 @@
+pub mod Heads
 pub mod Ranges
 pub mod InnerRanges
 pub mod Indexes
