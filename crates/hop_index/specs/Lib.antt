@@ -1,4 +1,4 @@
-pub mod Heads
+pub mod InnerHeads
 pub mod Ranges
 pub mod InnerRanges
 pub mod Indexes

@@ -1,6 +1,6 @@
 //! The numbers of addresses as an index stores them: in 4 bytes for IPv4, in 16 for IPv6.
 ghost use Rattle.std.specs.Prelude.{◌≡◌, ℕ, ◌+◌, ◌*◌, ◌/◌, ◌-◌, ◌^◌, ◌<◌, ◌≤◌, ◌↔◌, IsTrue};
-ghost use Rattle.hop_index.specs.Heads.{halved_ascends, halved_within, shifted_ascends, shifted_within};
+ghost use Rattle.hop_index.specs.InnerHeads.{halved_ascends, halved_within, shifted_ascends, shifted_within};
 
 /// The number of an address of one family: `u32` for IPv4, `Halves` for IPv6.
 pub(crate) trait Stored: Copy + Drop {
