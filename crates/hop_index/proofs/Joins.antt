@@ -19,7 +19,7 @@ use Rattle.hop_index.specs.Ranges.{HopRange, hop_in}
 use Rattle.hop_index.specs.InnerRanges.{AreSpans, EndsBefore, EndsBelow, HopSpan, IsIn, is_in, span_hop, span_of, spans_in}
 use Rattle.hop_index.proofs.Searches.{below_later}
 use Rattle.hop_index.proofs.Spans.{in_from_test, in_test, passed_over}
-use Rattle.hop_index.proofs.Walks.{Walked, first_of}
+use Rattle.hop_index.proofs.Walks.{Walked, hop_or}
 
 -- earlier and later members of an ascending list
 across : (xs ys : List HopSpan) → Rising EndsBefore (xs ++ ys) → (a b : HopSpan) → In a xs → In b ys → EndsBefore a b
@@ -81,7 +81,7 @@ module _ (r : HopSpan) (qs rest : List HopSpan) (some : r.first ≤ r.last)
         subst P (sym e) here)
         (λ j. w.apart s (In-right s qs rest j))
         i;
-    hops = λ x. ap (λ (o : Option ℕ). first_of (hop_in rs x) o) (run_hop_in x (is_in x r) refl) ∙ w.hops x;
+    hops = λ x. ap (λ (o : Option ℕ). hop_or (hop_in rs x) o) (run_hop_in x (is_in x r) refl) ∙ w.hops x;
   }
 
 -- the next run of a flat list

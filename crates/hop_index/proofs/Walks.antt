@@ -30,17 +30,17 @@ push_hops rs old first last k below to same x = ⊎_elim
     (cases_lt last x))
     (cases_lt x first)
 
--- the first that is a hop
-abbrev pub first_of : Option ℕ → Option ℕ → Option ℕ
-first_of (Some k) o = Some k
-first_of None o = o
+-- the first hop, or else the second
+abbrev pub hop_or : Option ℕ → Option ℕ → Option ℕ
+hop_or (Some k) o = Some k
+hop_or None o = o
 
 pub record Walked (end : ℕ) (ss : List HopSpan) (rs : List HopRange) (left : List HopSpan) : Type 0 where
   pub ascending : AreAscending rs
   pub within : EndsBelow rs end (length rs)
   pub spans : AreSpans left
   pub apart : (s : HopSpan) → In s left → EndsBelow rs s.first (length rs)
-  pub hops : (x : ℕ) → first_of (hop_in rs x) (span_hop left x) ≡ span_hop ss x
+  pub hops : (x : ℕ) → hop_or (hop_in rs x) (span_hop left x) ≡ span_hop ss x
 
 pub begin : (end : ℕ) (ss : List HopSpan) → AreSpans ss → Walked end ss [] ss
 begin end ss are = record {
@@ -54,29 +54,29 @@ begin end ss are = record {
 pub done : (end : ℕ) (ss : List HopSpan) (rs : List HopRange) → Walked end ss rs [] → AreRangesOf ss end rs
 done end ss rs w = record { ascending = w.ascending; within = w.within; hops = λ x. sym (none_after (hop_in rs x)) ∙ w.hops x }
   where
-    none_after : (o : Option ℕ) → first_of o None ≡ o
+    none_after : (o : Option ℕ) → hop_or o None ≡ o
     none_after (Some k) = refl
     none_after None = refl
 
-module _ (end : ℕ) (ss : List HopSpan) (rs new : List HopRange) (s : HopSpan) (left : List HopSpan) (w : Walked end ss rs (s ∷ left)) where
+module _ (end : ℕ) (ss : List HopSpan) (rs : List HopRange) (s : HopSpan) (left : List HopSpan) (w : Walked end ss rs (s ∷ left)) where
   pub ends_before : EndsBelow rs s.first (length rs)
   ends_before = w.apart s (inl refl)
 
-  one_hop : (x : ℕ) (b : Bool) → is_in x s ≡ b → hop_in new x ≡ cond (is_in x s) (Some s.hop) (hop_in rs x) → first_of (hop_in new x) (span_hop left x) ≡ first_of (hop_in rs x) (span_hop (s ∷ left) x)
-  one_hop x true e h =
+  one_hop : (new : List HopRange) (x : ℕ) (b : Bool) → is_in x s ≡ b → hop_in new x ≡ cond (is_in x s) (Some s.hop) (hop_in rs x) → hop_or (hop_in new x) (span_hop left x) ≡ hop_or (hop_in rs x) (span_hop (s ∷ left) x)
+  one_hop new x true e h =
       let i = in_from_test x s e in
       let none : hop_in rs x ≡ None = none_past rs x (below_later rs s.first x (length rs) i.0 ends_before) in
-      ap (λ (o : Option ℕ). first_of o (span_hop left x)) (h ∙ ap (λ b. cond b (Some s.hop) (hop_in rs x)) e)
-      ∙ sym (ap (λ (o : Option ℕ). first_of o (span_hop (s ∷ left) x)) none ∙ ap (λ b. cond b (Some s.hop) (span_hop left x)) e)
-  one_hop x false e h =
-      ap (λ (o : Option ℕ). first_of o (span_hop left x)) (h ∙ ap (λ b. cond b (Some s.hop) (hop_in rs x)) e)
-      ∙ sym (ap (λ (o : Option ℕ). first_of (hop_in rs x) o) (ap (λ b. cond b (Some s.hop) (span_hop left x)) e))
+      ap (λ (o : Option ℕ). hop_or o (span_hop left x)) (h ∙ ap (λ b. cond b (Some s.hop) (hop_in rs x)) e)
+      ∙ sym (ap (λ (o : Option ℕ). hop_or o (span_hop (s ∷ left) x)) none ∙ ap (λ b. cond b (Some s.hop) (span_hop left x)) e)
+  one_hop new x false e h =
+      ap (λ (o : Option ℕ). hop_or o (span_hop left x)) (h ∙ ap (λ b. cond b (Some s.hop) (hop_in rs x)) e)
+      ∙ sym (ap (λ (o : Option ℕ). hop_or (hop_in rs x) o) (ap (λ b. cond b (Some s.hop) (span_hop left x)) e))
 
-  pub walk_on : s.last < end → AreAscending new → EndsBelow new (s.last + 1) (length new) → ((x : ℕ) → hop_in new x ≡ cond (is_in x s) (Some s.hop) (hop_in rs x)) → Walked end ss new left
-  walk_on l up below hops = record {
+  pub walk_on : (new : List HopRange) → AreAscending new → EndsBelow new (s.last + 1) (length new) → EndsBelow new end (length new) → ((x : ℕ) → hop_in new x ≡ cond (is_in x s) (Some s.hop) (hop_in rs x)) → Walked end ss new left
+  walk_on new up below within hops = record {
     ascending = up;
-    within = below_later new (s.last + 1) end (length new) (omega arith) below;
+    within = within;
     spans = record { filled = λ k d k_in. w.spans.filled (suc k) d (omega arith); apart = λ j k d le k_in. w.spans.apart (suc j) (suc k) d (omega arith) (omega arith) };
     apart = λ t i. let e : s.last < t.first = (Rising-from_pairs EndsBefore (s ∷ left) w.spans.apart).0 t i in below_later new (s.last + 1) t.first (length new) (omega arith) below;
-    hops = λ x. one_hop x (is_in x s) refl (hops x) ∙ w.hops x;
+    hops = λ x. one_hop new x (is_in x s) refl (hops x) ∙ w.hops x;
   }

@@ -28,7 +28,7 @@ fn ranges(alloc: Global, mut flat: Flat<'_>) -> Result<(Ranges<u32>, Ranges<Halv
     let mut v6 = Ranges::new(alloc);
     'run: while let Some(run) = flat.next_run() {
         match run {
-            HopRun::V4(first, last, hop) => v4.add(u128::from(first), u128::from(last), hop)?,
+            HopRun::V4(first, last, hop) => v4.add(first as u128, last as u128, hop)?,
             HopRun::V6(first, last, hop) => v6.add(first, last, hop)?,
         }
     }

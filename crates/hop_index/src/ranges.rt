@@ -184,6 +184,7 @@ impl<N: Stored> Ranges<N> {
         requires within { last < 2 ^ N.width }
         ensures ascending { OnOk result (AreAscending self.new) }
         ensures below { OnOk result (EndsBelow self.new (last + 1) (length self.new)) }
+        ensures within { OnOk result (EndsBelow self.new (2 ^ N.width) (length self.new)) }
         ensures hops { OnOk result ((x : ℕ) → hop_in self.new x ≡ (if is_in x (record { first = first; last = last; hop = hop }) then Some hop else hop_in self.old x)) }
     {
         self.reach(first)?;

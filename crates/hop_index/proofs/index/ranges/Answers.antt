@@ -20,12 +20,22 @@ run-smaller-in-Continue-1 c = fewer c.run.flat c.next_run.new.self c.in-Some.run
 pub run-smaller : goal.run-smaller
 run-smaller c = fewer c.run.flat c.next_run.new.self c.in-Some.run' c.in-Some.ensures
 
+pub add-requires-clause-below : goal.add-requires-clause-below
+add-requires-clause-below c =
+    let given : BeginsWithRun c.run.flat (run.V4 c.in-V4.first c.in-V4.last c.in-V4.hop) c.next_run.new.self = rw (sym c.in-V4.is) c.in-Some.ensures in
+    ends_before (2 ^ 32) _ c.run.v4 _ _ (run_in_front c.run.flat c.next_run.new.self _ given (2 ^ 32) _ c.run.v4 c.run.invariant.ipv4)
+
+pub add-requires-in-V6-clause-below : goal.add-requires-in-V6-clause-below
+add-requires-in-V6-clause-below c =
+    let given : BeginsWithRun c.run.flat (run.V6 c.in-V6.first c.in-V6.last c.in-V6.hop) c.next_run.new.self = rw (sym c.in-V6.is) c.in-Some.ensures in
+    ends_before (2 ^ 128) _ c.run.v6 _ _ (run_in_front c.run.flat c.next_run.new.self _ given (2 ^ 128) _ c.run.v6 c.run.invariant.ipv6)
+
 pub run-preserved-in-Continue-1 : goal.run-preserved-in-Continue-1
 run-preserved-in-Continue-1 c =
     let given : BeginsWithRun c.run.flat (run.V4 c.in-V4.first c.in-V4.last c.in-V4.hop) c.next_run.new.self = rw (sym c.in-V4.is) c.in-Some.ensures in
     let front = run_in_front c.run.flat c.next_run.new.self _ given (2 ^ 32) _ c.run.v4 c.run.invariant.ipv4 in
     record {
-      ipv4 = walk_on (2 ^ 32) _ c.run.v4 c.add.new.self _ _ front ? c.in_ok-add.ensures.ascending c.in_ok-add.ensures.below c.in_ok-add.ensures.hops;
+      ipv4 = walk_on (2 ^ 32) _ c.run.v4 _ _ front c.add.new.self c.in_ok-add.ensures.ascending c.in_ok-add.ensures.below c.in_ok-add.ensures.within c.in_ok-add.ensures.hops;
       ipv6 = walk_kept c.run.flat c.next_run.new.self _ given Ipv6 (2 ^ 128) _ c.run.v6 (λ e. let r = ap rank e in omega arith) c.run.invariant.ipv6;
     }
 
@@ -35,7 +45,7 @@ run-preserved c =
     let front = run_in_front c.run.flat c.next_run.new.self _ given (2 ^ 128) _ c.run.v6 c.run.invariant.ipv6 in
     record {
       ipv4 = walk_kept c.run.flat c.next_run.new.self _ given Ipv4 (2 ^ 32) _ c.run.v4 (λ e. let r = ap rank e in omega arith) c.run.invariant.ipv4;
-      ipv6 = walk_on (2 ^ 128) _ c.run.v6 c.add-in-V6.new.self _ _ front ? c.in_ok-add-in-V6.ensures.ascending c.in_ok-add-in-V6.ensures.below c.in_ok-add-in-V6.ensures.hops;
+      ipv6 = walk_on (2 ^ 128) _ c.run.v6 _ _ front c.add-in-V6.new.self c.in_ok-add-in-V6.ensures.ascending c.in_ok-add-in-V6.ensures.below c.in_ok-add-in-V6.ensures.within c.in_ok-add-in-V6.ensures.hops;
     }
 
 pub returns-clause-ipv4 : goal.returns-clause-ipv4
