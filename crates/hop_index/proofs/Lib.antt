@@ -1,8 +1,8 @@
+pub mod Marks
 pub mod Searches
-pub mod Lookups
+pub mod Narrowing
+pub mod Spans
+pub mod Walks
 pub mod Pieces
-pub mod Indexes
 pub mod Joins
-pub mod Bits
-pub mod Counts
-pub mod Splits
+pub mod Indexes

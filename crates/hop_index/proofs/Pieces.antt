@@ -1,4 +1,4 @@
--- The blocks of a flat list as ranges: they ascend, and give each address its hop.
+-- The blocks of a flat list as spans: they ascend, and give each address its hop.
 use Rattle.std.proofs.Common.{◌≡◌, ℕ, ◌^◌, ◌<◌, ◌≤◌, ⊎_elim, Bool, List, Option, Some, None, filter, refl, sym, ap, ◌∙◌, subst, arith}
 use Rattle.std.proofs.lemmas.Bool.{cases_lt}
 use Rattle.std.proofs.lemmas.Nat.{pow_pos}
@@ -14,16 +14,15 @@ use Rattle.route_laws.specs.Flats.{Piece, IsFlat}
 use Rattle.route_laws.proofs.Flats.{Sooner, not_inside, piece_at, piece_is_block, tells}
 use Rattle.route_laws.proofs.Ordered.{before_apart}
 use Rattle.route_table.proofs.FlatPieces.{Rising-map}
-use Rattle.hop_index.specs.Ranges.{HopRange, IsIn, hop_in}
-use Rattle.hop_index.specs.InnerRanges.{AreRanges, EndsBefore, range_of, ranges_in}
-use Rattle.hop_index.proofs.Lookups.{in_or_none}
+use Rattle.hop_index.specs.InnerRanges.{AreSpans, EndsBefore, HopSpan, IsIn, span_hop, span_of, spans_in}
+use Rattle.hop_index.proofs.Spans.{in_or_none}
 
 module _ (h : Address → Option ℕ) (ps : List Piece) (flat : IsFlat h ps) where
   abbrev in_family : Family → Piece → Bool
   in_family f p = same_family p.block.family f
 
   module _ (f : Family) where
-    apart : (p q : Piece) → In p (filter (in_family f) ps) → In q (filter (in_family f) ps) → Sooner p q → EndsBefore (range_of p) (range_of q)
+    apart : (p q : Piece) → In p (filter (in_family f) ps) → In q (filter (in_family f) ps) → Sooner p q → EndsBefore (span_of p) (span_of q)
     apart p q i j l =
         let a = In-from_filter (in_family f) ps p i in
         let b = In-from_filter (in_family f) ps q j in
@@ -41,45 +40,45 @@ module _ (h : Address → Option ℕ) (ps : List Piece) (flat : IsFlat h ps) whe
         (nested p.block q.block (first_of q.block) (piece_is_block h ps flat p a.0) (piece_is_block h ps flat q b.0) inside (has_first q.block))))
         (cases_lt (last p.block) (first q.block))
 
-    rising : Rising EndsBefore (ranges_in f ps)
-    rising = Rising-map range_of Sooner EndsBefore (filter (in_family f) ps) apart (Rising-kept Sooner (in_family f) ps (Rising-from_pairs Sooner ps flat.ascending))
+    rising : Rising EndsBefore (spans_in f ps)
+    rising = Rising-map span_of Sooner EndsBefore (filter (in_family f) ps) apart (Rising-kept Sooner (in_family f) ps (Rising-from_pairs Sooner ps flat.ascending))
 
-    pub are_ranges : AreRanges (ranges_in f ps)
-    are_ranges = record {
-      filled = All-from_In (λ r. r.first ≤ r.last) (ranges_in f ps) (λ r i. let t = In-map range_of (filter (in_family f) ps) r i in
-          let P : HopRange → Type 0 = λ r. r.first ≤ r.last in
+    pub are_spans : AreSpans (spans_in f ps)
+    are_spans = record {
+      filled = All-from_In (λ r. r.first ≤ r.last) (spans_in f ps) (λ r i. let t = In-map span_of (filter (in_family f) ps) r i in
+          let P : HopSpan → Type 0 = λ r. r.first ≤ r.last in
           let p : Piece = t.0 in
           let u : first p.block ≤ last p.block = omega arith in subst P (sym t.2) u);
-      apart = pairs_from_Rising EndsBefore (ranges_in f ps) rising;
+      apart = pairs_from_Rising EndsBefore (spans_in f ps) rising;
     }
 
-    -- the numbers of a range have its hop
-    range_hop : (r : HopRange) (x : ℕ) → In r (ranges_in f ps) → IsIn x r → h (record { family = f; number = x }) ≡ Some r.hop
-    range_hop r x i within =
-        let t = In-map range_of (filter (in_family f) ps) r i in
+    -- the numbers of a span have its hop
+    span_has : (r : HopSpan) (x : ℕ) → In r (spans_in f ps) → IsIn x r → h (record { family = f; number = x }) ≡ Some r.hop
+    span_has r x i within =
+        let t = In-map span_of (filter (in_family f) ps) r i in
         let m = In-from_filter (in_family f) ps t.0 t.1 in
         let p : Piece = t.0 in
-        let in_piece : IsIn x (range_of p) = subst (IsIn x) t.2 within in
+        let in_piece : IsIn x (span_of p) = subst (IsIn x) t.2 within in
         let some : 0 < 2 ^ free_bits p.block = pow_pos (free_bits p.block) in
         tells h ps flat p m.0 (record { family = f; number = x })
         (has_of_span p.block (record { family = f; number = x }) (sym (family_from_test p.block.family f m.1)) in_piece.0 (let l = in_piece.1 in omega arith))
-        ∙ ap (λ (s : HopRange). Some s.hop) (sym t.2)
+        ∙ ap (λ (s : HopSpan). Some s.hop) (sym t.2)
 
-  -- a number with a hop is in a range
-  in_range : (x : Address) → IsAddress x → (k : ℕ) → h x ≡ Some k → (r : HopRange) × IsIn x.number r × In r (ranges_in x.family ps)
-  in_range x a k e =
+  -- a number with a hop is in a span
+  in_span : (x : Address) → IsAddress x → (k : ℕ) → h x ≡ Some k → (r : HopSpan) × IsIn x.number r × In r (spans_in x.family ps)
+  in_span x a k e =
       let t = piece_at h ps flat x a k e in
       let p : Piece = t.0 in
       let s = span_of_has p.block x t.2 in
-      (range_of p, (s.0, omega (arith, s.1)), map_In range_of (filter (in_family x.family) ps) p (In-filter (in_family x.family) ps p t.1 (test_from_family p.block.family x.family (sym t.2.0))))
+      (span_of p, (s.0, omega (arith, s.1)), map_In span_of (filter (in_family x.family) ps) p (In-filter (in_family x.family) ps p t.1 (test_from_family p.block.family x.family (sym t.2.0))))
 
-  none_outside : (x : Address) → IsAddress x → ((r : HopRange) → In r (ranges_in x.family ps) → IsIn x.number r → ⊥) → (o : Option ℕ) → h x ≡ o → h x ≡ None
+  none_outside : (x : Address) → IsAddress x → ((r : HopSpan) → In r (spans_in x.family ps) → IsIn x.number r → ⊥) → (o : Option ℕ) → h x ≡ o → h x ≡ None
   none_outside x a n None e = e
-  none_outside x a n (Some k) e = let t = in_range x a k e in absurd (n t.0 t.2 t.1)
+  none_outside x a n (Some k) e = let t = in_span x a k e in absurd (n t.0 t.2 t.1)
 
-  -- the ranges give each address its hop
-  pub same_hops : (x : Address) → IsAddress x → hop_in (ranges_in x.family ps) x.number ≡ h x
+  -- the spans give each address its hop
+  pub same_hops : (x : Address) → IsAddress x → span_hop (spans_in x.family ps) x.number ≡ h x
   same_hops x a = ⊎_elim
-      (λ t. t.3 ∙ sym (range_hop x.family t.0 x.number t.1 t.2))
+      (λ t. t.3 ∙ sym (span_has x.family t.0 x.number t.1 t.2))
       (λ n. n.1 ∙ sym (none_outside x a n.0 (h x) refl))
-      (in_or_none (ranges_in x.family ps) x.number)
+      (in_or_none (spans_in x.family ps) x.number)

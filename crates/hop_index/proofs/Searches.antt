@@ -1,107 +1,150 @@
--- How many of ascending ranges begin below a number.
-use Rattle.std.proofs.Common.{◌≡◌, ℕ, ◌+◌, ◌-◌, ◌*◌, ◌/◌, ◌%◌, ◌<◌, ◌≤◌, List, [], ◌∷◌, ◌++◌, length, get_or, sym, ap, ◌∙◌, subst, arith, ⊎_elim}
+-- How many of ascending ranges end below a number, and its hop.
+use Rattle.std.proofs.Common.{◌≡◌, ℕ, zero, suc, ◌+◌, ◌-◌, ◌<◌, ◌≤◌, ⊎_elim, Bool, true, false, cond, nat_le, List, [], ◌∷◌, ◌++◌, Option, Some, None, length, length-append, get_or, refl, sym, ap, ◌∙◌, subst, arith}
 use Rattle.std.proofs.lemmas.Bool.{cases_lt}
+use Rattle.std.proofs.lemmas.Bool.Decides.{nat_tests}
 use Rattle.std.proofs.lemmas.List.{get_or_append_left, get_or_default, get_or_push}
-use Rattle.std.proofs.lemmas.Nat.{div-add-mod'}
-use Rattle.std.proofs.Math.Nat.{mod-lt, mul-le-mul_right}
-use Rattle.hop_index.specs.Ranges.{HopRange}
-use Rattle.hop_index.specs.InnerRanges.{AreRanges, BeginsBelow, BeginsFrom}
+use Rattle.hop_index.specs.Ranges.{HopRange, hop_in}
+use Rattle.hop_index.specs.InnerRanges.{AreAscending, ArePadded, EndsBelow, EndsFrom}
 
--- where one begins, the earlier ones have ended
-pub first_before : (rs : List HopRange) (k m : ℕ) (e d : HopRange) → AreRanges rs → k < m → m < length rs → (get_or rs k e).last < (get_or rs m d).first
-first_before rs k m e d h l m_in =
-    let same : get_or rs m e ≡ get_or rs m d = get_or_default rs m e d m_in in
-    let P : HopRange → Type 0 = λ r. (get_or rs k e).last < r.first in
-    subst P same (h.apart k m e l m_in)
+same_last : (rs : List HopRange) (m : ℕ) (d e : HopRange) → m < length rs → (get_or rs m d).last ≡ (get_or rs m e).last
+same_last rs m d e l = ap (λ (r : HopRange). r.last) (get_or_default rs m d e l)
 
--- a range that begins below y, and those before it
-pub begins_below : (rs : List HopRange) (y m : ℕ) (d : HopRange) → AreRanges rs → m < length rs → (get_or rs m d).first < y → BeginsBelow rs y (m + 1)
-begins_below rs y m d h m_in f = record {
+-- a range that ends below y, and those before it
+pub ends_below : (rs : List HopRange) (y m : ℕ) (d : HopRange) → AreAscending rs → m < length rs → (get_or rs m d).last < y → EndsBelow rs y (m + 1)
+ends_below rs y m d up m_in f = record {
   within = omega arith;
-  below = λ k e l. ⊎_elim
-      (λ less. let b : (get_or rs k e).last < (get_or rs m d).first = first_before rs k m e d h less m_in in
-      let r : (get_or rs k e).first ≤ (get_or rs k e).last = h.filled k e (omega arith) in omega arith)
-      (λ more. let is : m ≡ k = omega arith in
-      let P : ℕ → Type 0 = λ j. (get_or rs j e).first < y in
-      let Q : HopRange → Type 0 = λ r. r.first < y in
-      subst P is (subst Q (get_or_default rs m d e m_in) f))
-      (cases_lt k m);
+  below = λ k e l. let a : (get_or rs k e).last ≤ (get_or rs m e).last = up k m e (omega arith) m_in in let s = same_last rs m d e m_in in omega arith;
 }
 
--- a range that begins at y or above, and those after it
-pub begins_from : (rs : List HopRange) (y m : ℕ) (d : HopRange) → AreRanges rs → m < length rs → y ≤ (get_or rs m d).first → BeginsFrom rs y m
-begins_from rs y m d h m_in f = record {
+-- a range that ends at y or above, and those after it
+pub ends_from : (rs : List HopRange) (y m : ℕ) (d : HopRange) → AreAscending rs → m < length rs → y ≤ (get_or rs m d).last → EndsFrom rs y m
+ends_from rs y m d up m_in f = record {
   within = omega arith;
-  from = λ k e l k_in. ⊎_elim
-      (λ more. let b : (get_or rs m d).last < (get_or rs k e).first = first_before rs m k d e h more k_in in
-      let r : (get_or rs m d).first ≤ (get_or rs m d).last = h.filled m d m_in in omega arith)
-      (λ less. let is : m ≡ k = omega arith in
-      let P : ℕ → Type 0 = λ j. y ≤ (get_or rs j e).first in
-      let Q : HopRange → Type 0 = λ r. y ≤ r.first in
-      subst P is (subst Q (get_or_default rs m d e m_in) f))
-      (cases_lt m k);
+  from = λ k e l k_in. let a : (get_or rs m e).last ≤ (get_or rs k e).last = up m k e l k_in in let s = same_last rs m d e m_in in omega arith;
 }
 
 -- a later bound
-pub below_later : (rs : List HopRange) (y z i : ℕ) → y ≤ z → BeginsBelow rs y i → BeginsBelow rs z i
-below_later rs y z i le b = record { within = b.within; below = λ k d l. let f : (get_or rs k d).first < y = b.below k d l in omega arith }
+pub below_later : (rs : List HopRange) (y z i : ℕ) → y ≤ z → EndsBelow rs y i → EndsBelow rs z i
+below_later rs y z i le b = record { within = b.within; below = λ k d l. let f : (get_or rs k d).last < y = b.below k d l in omega arith }
 
--- no range is left
-pub from_end : (rs : List HopRange) (y i : ℕ) → i ≤ length rs → length rs ≤ i → BeginsFrom rs y i
-from_end rs y i le ge = record { within = le; from = λ k d l m. absurd (omega arith) }
+-- an earlier start
+pub fewer_from : (rs : List HopRange) (y i j : ℕ) → i ≤ j → j ≤ length rs → EndsFrom rs y i → EndsFrom rs y j
+fewer_from rs y i j le within f = record { within = within; from = λ k d l k_in. f.from k d (omega arith) k_in }
 
--- one more start
-pub one_more : (P : ℕ → ℕ → Type 0) (xs : List ℕ) (n v : ℕ) → length xs ≡ n → ((t : ℕ) → t < n → P t (get_or xs t 0)) → P n v → (t : ℕ) → t < n + 1 → P t (get_or (xs ++ v ∷ []) t 0)
-one_more P xs n v len h last t l = ⊎_elim
-    (λ less. subst (P t) (sym (get_or_append_left xs (v ∷ []) 0 t (omega arith))) (h t less))
-    (λ more. let is : n ≡ t = omega arith in
-    subst (λ (j : ℕ). P j (get_or (xs ++ v ∷ []) j 0)) is (subst (P n) (sym (get_or_push xs v 0 n len)) last))
-    (cases_lt t n)
-
--- all of the ranges, and none of them
-pub all_from : (rs : List HopRange) (y : ℕ) → BeginsFrom rs y (length rs)
-all_from rs y = from_end rs y (length rs) (omega arith) (omega arith)
-
-pub none_below : (rs : List HopRange) (y : ℕ) → BeginsBelow rs y 0
+-- none of them, and no range at all
+pub none_below : (rs : List HopRange) (y : ℕ) → EndsBelow rs y 0
 none_below rs y = record { within = omega arith; below = λ k d l. absurd (omega arith) }
 
--- an earlier bound
-pub from_sooner : (rs : List HopRange) (y z i : ℕ) → z ≤ y → BeginsFrom rs y i → BeginsFrom rs z i
-from_sooner rs y z i le b = record { within = b.within; from = λ k d l m. let f : y ≤ (get_or rs k d).first = b.from k d l m in omega arith }
+-- at least four ranges do not end below a number
+pub before_pads : (rs : List HopRange) (end x i : ℕ) → ArePadded rs end → x < end → EndsBelow rs x i → i + 4 ≤ length rs
+before_pads rs end x i p le b =
+    let four = p.four in
+    let d : HopRange = record { last = 0; hop = None } in
+    ⊎_elim
+    (λ (more : length rs - 4 < i).
+    let f : (get_or rs (length rs - 4) d).last < x = b.below (length rs - 4) d more in
+    let t : end - 1 ≤ (get_or rs (length rs - 4) d).last = p.pads.from (length rs - 4) d (omega arith) (omega arith) in
+    absurd (omega arith))
+    (λ less. omega arith)
+    (cases_lt (length rs - 4) i)
 
--- the ranges from a block on are those of its chunk and those after the chunk
-pub from_block : (rs : List HopRange) (start size j n place high : ℕ) → j ≤ 64 → BeginsBelow rs (start + j * size) n → ((k : ℕ) (d : HopRange) → n ≤ k → k < place → start + j * size ≤ (get_or rs k d).first) → high ≤ place
-    → BeginsFrom rs (start + 64 * size) high → BeginsFrom rs (start + j * size) n
-from_block rs start size j n place high l below old past h = record {
-  within = below.within;
-  from = λ k d c k_in. ⊎_elim
-      (λ before. old k d c before)
-      (λ ge. let f : start + 64 * size ≤ (get_or rs k d).first = h.from k d (omega arith) k_in in
-      let t : j * size ≤ 64 * size = mul-le-mul_right size l in omega (arith, f, t))
-      (cases_lt k place);
-}
+-- the hop of the first range that ends at x or above
+pub found : (rs : List HopRange) (m : ℕ) (d : HopRange) (x : ℕ) → m < length rs → EndsBelow rs x m → EndsFrom rs x m → hop_in rs x ≡ (get_or rs m d).hop
+found [] m d x l b f = absurd (omega arith)
+found (r ∷ rs) zero d x l b f =
+    let here : x ≤ r.last = f.from 0 d (omega arith) l in
+    let test : nat_le x r.last ≡ true = grind (arith, nat_tests) in
+    ap (λ t. cond t r.hop (hop_in rs x)) test
+found (r ∷ rs) (suc m) d x l b f =
+    let here : r.last < x = b.below 0 d (omega arith) in
+    let test : nat_le x r.last ≡ false = grind (arith, nat_tests) in
+    let b_in = b.within in
+    ap (λ t. cond t r.hop (hop_in rs x)) test
+    ∙ found rs m d x (omega arith) (record { within = omega arith; below = λ k e k_in. b.below (suc k) e (omega arith) }) (record { within = omega arith; from = λ k e le k_in. f.from (suc k) e (omega arith) (omega arith) })
 
--- the block of a chunk in which a range begins
-pub record InBlock (rs : List HopRange) (start size place b : ℕ) (d : HopRange) : Type 0 where
-  pub within : place < length rs
-  pub block : b < 64
-  pub from : start + b * size ≤ (get_or rs place d).first
-  pub below : (get_or rs place d).first < start + (b + 1) * size
+-- more ranges after all that end below x
+pub past : (rs ss : List HopRange) (x : ℕ) → EndsBelow rs x (length rs) → hop_in (rs ++ ss) x ≡ hop_in ss x
+past [] ss x b = refl
+past (r ∷ rs) ss x b =
+    let here : r.last < x = b.below 0 r (omega arith) in
+    let test : nat_le x r.last ≡ false = grind (arith, nat_tests) in
+    ap (λ t. cond t r.hop (hop_in (rs ++ ss) x)) test ∙ past rs ss x (record { within = omega arith; below = λ k e k_in. b.below (suc k) e (omega arith) })
 
-pub block_at : (rs : List HopRange) (start size low place high first : ℕ) (d : HopRange) → 0 < size → BeginsFrom rs start low → BeginsBelow rs (start + 64 * size) high → low ≤ place → place < high → d ≡ get_or rs place d → first ≡ d.first
-    → InBlock rs start size place ((first - start) / size) d
-block_at rs start size low place high first d some from below l m is same =
-    let b : ℕ = (first - start) / size in
-    let within : place < length rs = omega (arith, m, below.within) in
-    let f : start ≤ (get_or rs place d).first = from.from place d l within in
-    let t : (get_or rs place d).first < start + 64 * size = below.below place d m in
-    let e : first ≡ (get_or rs place d).first = same ∙ ap (λ (r : HopRange). r.first) is in
-    let q : b * size + (first - start) % size ≡ first - start = div-add-mod' (first - start) size in
-    let r : (first - start) % size < size = mod-lt (first - start) some in
-    let n : (b + 1) * size ≡ b * size + size = grind arith in
-    record {
-      within = within;
-      block = ⊎_elim (λ h. h) (λ ge. let g : 64 * size ≤ b * size = mul-le-mul_right size ge in absurd (omega arith)) (cases_lt b 64);
-      from = omega arith;
-      below = omega arith;
-    }
+pub none_past : (rs : List HopRange) (x : ℕ) → EndsBelow rs x (length rs) → hop_in rs x ≡ None
+none_past [] x b = refl
+none_past (r ∷ rs) x b =
+    let here : r.last < x = b.below 0 r (omega arith) in
+    let test : nat_le x r.last ≡ false = grind (arith, nat_tests) in
+    ap (λ t. cond t r.hop (hop_in rs x)) test ∙ none_past rs x (record { within = omega arith; below = λ k e k_in. b.below (suc k) e (omega arith) })
+
+-- more ranges after one that ends at x or above
+pub reached : (rs ss : List HopRange) (x : ℕ) → (EndsBelow rs x (length rs) → ⊥) → hop_in (rs ++ ss) x ≡ hop_in rs x
+reached [] ss x n = absurd (n (none_below [] x))
+reached (r ∷ rs) ss x n = ⊎_elim
+    (λ (less : r.last < x).
+    let test : nat_le x r.last ≡ false = grind (arith, nat_tests) in
+    ap (λ t. cond t r.hop (hop_in (rs ++ ss) x)) test
+    ∙ reached rs ss x (λ b. n (record { within = omega arith; below = longer less b }))
+    ∙ sym (ap (λ t. cond t r.hop (hop_in rs x)) test))
+    (λ (more : x ≤ r.last).
+    let test : nat_le x r.last ≡ true = grind (arith, nat_tests) in
+    ap (λ t. cond t r.hop (hop_in (rs ++ ss) x)) test ∙ sym (ap (λ t. cond t r.hop (hop_in rs x)) test))
+    (cases_lt r.last x)
+  where
+    longer : r.last < x → EndsBelow rs x (length rs) → (k : ℕ) (d : HopRange) → k < length (r ∷ rs) → (get_or (r ∷ rs) k d).last < x
+    longer less b zero d k_in = less
+    longer less b (suc k) d k_in = b.below k d (omega arith)
+
+-- one more range without a hop
+pub push_none : (rs : List HopRange) (y x : ℕ) → hop_in (rs ++ record { last = y; hop = None } ∷ []) x ≡ hop_in rs x
+push_none [] y x = go (nat_le x y)
+  where
+    go : (b : Bool) → cond {A = Option ℕ} b None None ≡ None
+    go true = refl
+    go false = refl
+push_none (r ∷ rs) y x = ap (λ o. cond (nat_le x r.last) r.hop o) (push_none rs y x)
+
+module _ (rs : List HopRange) (r : HopRange) where
+  pub length_push : length (rs ++ r ∷ []) ≡ length rs + 1
+  length_push = length-append rs (r ∷ [])
+
+  last_push : (k : ℕ) (d : HopRange) → k ≡ length rs → (get_or (rs ++ r ∷ []) k d).last ≡ r.last
+  last_push k d e = ap (λ (s : HopRange). s.last) (get_or_push rs r d k (sym e))
+
+  last_old : (k : ℕ) (d : HopRange) → k < length rs → (get_or (rs ++ r ∷ []) k d).last ≡ (get_or rs k d).last
+  last_old k d l = ap (λ (s : HopRange). s.last) (get_or_append_left rs (r ∷ []) d k l)
+
+  -- one more range that ends below
+  pub push_below : (y : ℕ) → EndsBelow rs y (length rs) → r.last < y → EndsBelow (rs ++ r ∷ []) y (length (rs ++ r ∷ []))
+  push_below y b l = record {
+    within = omega arith;
+    below = λ k d k_in. ⊎_elim
+        (λ less. let o = last_old k d less in let f : (get_or rs k d).last < y = b.below k d less in omega arith)
+        (λ more. let o = last_push k d (omega (arith, length_push)) in omega arith)
+        (cases_lt k (length rs));
+  }
+
+  -- one more range that ends at the ends of the others or above
+  pub push_ascends : AreAscending rs → EndsBelow rs (r.last + 1) (length rs) → AreAscending (rs ++ r ∷ [])
+  push_ascends up b j k d le k_in = ⊎_elim
+      (λ less. let o = last_old k d less in let p = last_old j d (omega arith) in let u : (get_or rs j d).last ≤ (get_or rs k d).last = up j k d le less in omega arith)
+      (λ more. let o = last_push k d (omega (arith, length_push)) in ⊎_elim
+      (λ less. let p = last_old j d less in let f : (get_or rs j d).last < r.last + 1 = b.below j d less in omega arith)
+      (λ last. let p = last_push j d (omega (arith, length_push)) in omega arith)
+      (cases_lt j (length rs)))
+      (cases_lt k (length rs))
+
+  -- the new range is past no number up to its end
+  pub push_reaches : (x : ℕ) → x ≤ r.last → EndsBelow (rs ++ r ∷ []) x (length (rs ++ r ∷ [])) → ⊥
+  push_reaches x le b = let f : (get_or (rs ++ r ∷ []) (length rs) r).last < x = b.below (length rs) r (omega (arith, length_push)) in let o = last_push (length rs) r refl in absurd (omega arith)
+
+  pub push_from : (y i : ℕ) → y ≤ r.last → EndsFrom rs y i → EndsFrom (rs ++ r ∷ []) y i
+  push_from y i le f =
+      let within = f.within in
+      record {
+        within = omega (arith, length_push);
+        from = λ k d i_k k_in. ⊎_elim
+            (λ less. let o = last_old k d less in let g : y ≤ (get_or rs k d).last = f.from k d i_k less in omega arith)
+            (λ more. let o = last_push k d (omega (arith, length_push)) in omega arith)
+            (cases_lt k (length rs));
+      }

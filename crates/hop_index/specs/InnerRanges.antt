@@ -1,97 +1,103 @@
--- Ascending ranges, the index of their first bits, and the ranges of a flat list.
-use Rattle.std.specs.Prelude.{◌≡◌, ℕ, ◌+◌, ◌*◌, ◌/◌, ◌%◌, ◌-◌, ◌^◌, ◌<◌, ◌≤◌, ◌++◌, ◌⊎◌, List, [], ◌∷◌, All, AllPairs, count_ones, filter, length, map, slice_index, slice_index_or}
+-- Ascending ranges, the cells that narrow a search in them, and the runs of a flat list.
+use Rattle.std.specs.Prelude.{◌≡◌, ◌==◌, ℕ, ◌+◌, ◌*◌, ◌/◌, ◌%◌, ◌-◌, ◌^◌, ◌<◌, ◌≤◌, ◌&&◌, nat_le, not, if◌then◌else◌, Bool, false, List, [], ◌∷◌, Option, Some, None, All, AllPairs, filter, length, map, slice_index, slice_index_or}
 use Rattle.ipnet_addr.specs.Addresses.{Family, same_family}
 use Rattle.ipnet_blocks.specs.Blocks.{first, last}
 use Rattle.route_laws.specs.Flats.{Piece}
 use Rattle.hop_index.specs.Ranges.{HopRange, hop_in}
 
--- the earlier range ends before the later one begins
-abbrev pub EndsBefore : HopRange → HopRange → Type 0
-EndsBefore r s = r.last < s.first
+-- a range as an index stores it: 2 ^ 32 - 1 stands for no hop, unless a mark says that it is the hop
+pub record StoredRange : Type 0 where
+  pub last : ℕ
+  pub hop : ℕ
 
--- ascending ranges that are not empty and have no number in common
-pub record AreRanges (rs : List HopRange) : Type 0 where
-  pub filled : All (λ r. r.first ≤ r.last) rs
-  pub apart : AllPairs EndsBefore rs
+abbrev pub hop_of_mark : ℕ → Bool → Option ℕ
+hop_of_mark hop marked = if hop == 4294967295 && not marked then None else Some hop
 
--- the first i ranges begin below y
-pub record BeginsBelow (rs : List HopRange) (y i : ℕ) : Type 0 where
+-- the ranges with their marks; there are none for the last ranges if none of these has a mark
+abbrev pub marked_ranges : List StoredRange → List Bool → List HopRange
+marked_ranges [] marks = []
+marked_ranges (r ∷ rs) [] = record { last = r.last; hop = hop_of_mark r.hop false } ∷ marked_ranges rs []
+marked_ranges (r ∷ rs) (m ∷ marks) = record { last = r.last; hop = hop_of_mark r.hop m } ∷ marked_ranges rs marks
+
+-- no range ends below the range before it
+abbrev pub AreAscending : List HopRange → Type 0
+AreAscending rs = (j k : ℕ) (d : HopRange) → j ≤ k → k < length rs → (slice_index_or rs j d).last ≤ (slice_index_or rs k d).last
+
+-- the first i ranges end below y
+pub record EndsBelow (rs : List HopRange) (y i : ℕ) : Type 0 where
   pub within : i ≤ length rs
-  pub below : (k : ℕ) (d : HopRange) → k < i → (slice_index_or rs k d).first < y
+  pub below : (k : ℕ) (d : HopRange) → k < i → (slice_index_or rs k d).last < y
 
--- the ranges from index i on begin at y or above
-pub record BeginsFrom (rs : List HopRange) (y i : ℕ) : Type 0 where
+-- the ranges from index i on end at y or above
+pub record EndsFrom (rs : List HopRange) (y i : ℕ) : Type 0 where
   pub within : i ≤ length rs
-  pub from : (k : ℕ) (d : HopRange) → i ≤ k → k < length rs → y ≤ (slice_index_or rs k d).first
+  pub from : (k : ℕ) (d : HopRange) → i ≤ k → k < length rs → y ≤ (slice_index_or rs k d).last
 
--- a word for the 64 blocks of 256 numbers from `start` on; `count` ranges begin before `start`. This number and the bits set up to the
--- end of a block are the number of ranges that begin at or below the block's first number; all others begin after the block
-pub record AreMarksOf (rs : List HopRange) (start count word : ℕ) : Type 0 where
-  pub below : (j : ℕ) → j < 64 → BeginsBelow rs (start + j * 2 ^ 8 + 1) (count + count_ones (word % 2 ^ (j + 1)))
-  pub from : (j : ℕ) → j < 64 → BeginsFrom rs (start + (j + 1) * 2 ^ 8) (count + count_ones (word % 2 ^ (j + 1)))
+-- ascending ranges that end below `end`, the last four at the number before it
+pub record ArePadded (rs : List HopRange) (end : ℕ) : Type 0 where
+  pub ascending : AreAscending rs
+  pub within : EndsBelow rs end (length rs)
+  pub four : 4 ≤ length rs
+  pub pads : EndsFrom rs (end - 1) (length rs - 4)
 
--- such words for the chunks of IPv4, and the number of ranges that begin before each
-pub record AreMarks (rs : List HopRange) (starts words : List ℕ) : Type 0 where
-  pub all_starts : length starts ≡ 262144
-  pub all : length words ≡ 262144
-  pub marks : (t : ℕ) → t < 262144 → AreMarksOf rs (t * 2 ^ 14) (slice_index starts t) (slice_index words t)
+-- each number is above the one before it, by less than 2 ^ 16
+abbrev pub AreRising : List ℕ → Type 0
+AreRising tops = (c : ℕ) → c + 1 < length tops → (slice_index tops c < slice_index tops (c + 1)) × (slice_index tops (c + 1) < slice_index tops c + 65536)
 
--- a word for the 64 blocks of 2 ^ 101 numbers from `start` on. Unless it is zero: for each block and for the end, the number of ranges
--- that begin before it is the count at `place` plus the number of bits set below it
-pub record AreCountsOf (rs : List HopRange) (start : ℕ) (counts : List ℕ) (place word : ℕ) : Type 0 where
-  pub within : (word ≡ 0 → ⊥) → (j : ℕ) → j ≤ 64 → place + count_ones (word % 2 ^ j) < length counts
-  pub below : (word ≡ 0 → ⊥) → (j : ℕ) → j ≤ 64 → BeginsBelow rs (start + j * 2 ^ 101) (slice_index counts (place + count_ones (word % 2 ^ j)))
-  pub from : (word ≡ 0 → ⊥) → (j : ℕ) → j ≤ 64 → BeginsFrom rs (start + j * 2 ^ 101) (slice_index counts (place + count_ones (word % 2 ^ j)))
+-- the first cell of each chunk, and the number of all cells. A chunk has the numbers with the same first 16 bits
+pub record AreTops (tops : List ℕ) : Type 0 where
+  pub all : length tops ≡ 65537
+  pub rising : AreRising tops
 
--- no range begins in the chunk of 2 ^ 107 numbers from `start` on, and `place` ranges begin before it
-pub record IsNoneIn (rs : List HopRange) (start place : ℕ) : Type 0 where
-  pub below : BeginsBelow rs start place
-  pub from : BeginsFrom rs (start + 2 ^ 107) place
+-- the cell of a number by its first 64 bits: the cells of a chunk divide its numbers evenly
+abbrev pub cell_of : List ℕ → ℕ → ℕ
+cell_of tops head =
+    let chunk = head / 2 ^ 48 in
+    slice_index tops chunk + head % 2 ^ 48 * (slice_index tops (chunk + 1) - slice_index tops chunk) / 2 ^ 48
 
--- such words for the first chunks of 2000::/3; all ranges begin before their end. If a word is zero, no range begins in its chunk, and
--- its place is the number of ranges that begin before it
-pub record AreBlockCounts (rs : List HopRange) (words places counts : List ℕ) : Type 0 where
-  pub all : BeginsBelow rs ((262144 + length words) * 2 ^ 107) (length rs)
-  pub places' : length places ≡ length words
-  pub counted : (t : ℕ) → t < length words → AreCountsOf rs ((262144 + t) * 2 ^ 107) counts (slice_index places t) (slice_index words t)
-  pub empty : (t : ℕ) → t < length words → slice_index words t ≡ 0 → IsNoneIn rs ((262144 + t) * 2 ^ 107) (slice_index places t)
+-- for each cell: how many ranges end in earlier cells, where `cell` tells the cell of a number
+pub record AreCells (cell : ℕ → ℕ) (rs : List HopRange) (cells : List ℕ) : Type 0 where
+  pub within : (c : ℕ) → c < length cells → slice_index cells c ≤ length rs
+  pub before : (c k : ℕ) (d : HopRange) → c < length cells → k < slice_index cells c → cell (slice_index_or rs k d).last < c
+  pub after : (c k : ℕ) (d : HopRange) → c < length cells → slice_index cells c ≤ k → k < length rs → c ≤ cell (slice_index_or rs k d).last
 
--- a range of whole blocks of 256 numbers, at most 256 of them
-pub record IsShort4 (r : HopRange) : Type 0 where
-  pub first : r.first % 256 ≡ 0
-  pub last : r.last % 256 ≡ 255
-  pub some : r.first ≤ r.last
-  pub few : (r.last - r.first) / 2 ^ 16 ≡ 0
+-- the numbers from first to last have this hop
+pub record HopSpan : Type 0 where
+  pub first : ℕ
+  pub last : ℕ
+  pub hop : ℕ
 
--- such a range, from a key: its last 8 bits are the number of blocks after the first, and the bits above are that of the first
-abbrev pub short_range4 : ℕ → ℕ → HopRange
-short_range4 key hop = record { first = key / 256 * 256; last = (key / 256 + key % 256) * 256 + 255; hop = hop }
+-- the number is in the span
+abbrev pub IsIn : ℕ → HopSpan → Type 0
+IsIn x s = (s.first ≤ x) × (x ≤ s.last)
 
--- a range of whole networks of 48 bits in 2000::/3, at most 2 ^ 19 of them
-pub record IsShort6 (r : HopRange) : Type 0 where
-  pub first : r.first % 2 ^ 80 ≡ 0
-  pub last : r.last % 2 ^ 80 ≡ 2 ^ 80 - 1
-  pub global : r.first / 2 ^ 125 ≡ 1
-  pub some : r.first ≤ r.last
-  pub few : (r.last - r.first) / 2 ^ 99 ≡ 0
+-- the test of `IsIn`
+abbrev pub is_in : ℕ → HopSpan → Bool
+is_in x s = nat_le s.first x && nat_le x s.last
 
--- such a range, from a key: 45 bits for the first network, and 19 bits for the number of networks after it
-abbrev pub short_range6 : ℕ → ℕ → HopRange
-short_range6 key hop = record { first = (2 ^ 45 + key / 2 ^ 19) * 2 ^ 80; last = (2 ^ 45 + key / 2 ^ 19 + key % 2 ^ 19) * 2 ^ 80 + (2 ^ 80 - 1); hop = hop }
+-- the hop of the span that contains the number
+abbrev pub span_hop : List HopSpan → ℕ → Option ℕ
+span_hop [] x = None
+span_hop (s ∷ ss) x = if is_in x s then Some s.hop else span_hop ss x
 
--- two lists of ranges that together have the same hops as one
-pub record IsSplit (rs short others : List HopRange) : Type 0 where
-  pub short' : AreRanges short
-  pub others' : AreRanges others
-  pub hops : (x : ℕ) → hop_in (short ++ others) x ≡ hop_in rs x
+-- the earlier span ends before the later one begins
+abbrev pub EndsBefore : HopSpan → HopSpan → Type 0
+EndsBefore s t = s.last < t.first
 
--- two lists, one of which has one more range
-abbrev pub HaveOneMore : HopRange → List HopRange → List HopRange → List HopRange → List HopRange → Type 0
-HaveOneMore r short others new_short new_others = ((new_short ≡ short ++ r ∷ []) × (new_others ≡ others)) ⊎ ((new_short ≡ short) × (new_others ≡ others ++ r ∷ []))
+-- ascending spans that are not empty and have no number in common
+pub record AreSpans (ss : List HopSpan) : Type 0 where
+  pub filled : All (λ s. s.first ≤ s.last) ss
+  pub apart : AllPairs EndsBefore ss
 
--- a piece of a flat list as a range, and those of a family
-abbrev pub range_of : Piece → HopRange
-range_of p = record { first = first p.block; last = last p.block; hop = p.number }
+-- ascending ranges that end below `end` and have the hops of the spans
+pub record AreRangesOf (ss : List HopSpan) (end : ℕ) (rs : List HopRange) : Type 0 where
+  pub ascending : AreAscending rs
+  pub within : EndsBelow rs end (length rs)
+  pub hops : (x : ℕ) → hop_in rs x ≡ span_hop ss x
 
-abbrev pub ranges_in : Family → List Piece → List HopRange
-ranges_in f ps = map range_of (filter (λ p. same_family p.block.family f) ps)
+-- a piece of a flat list as a span, and those of a family
+abbrev pub span_of : Piece → HopSpan
+span_of p = record { first = first p.block; last = last p.block; hop = p.number }
+
+abbrev pub spans_in : Family → List Piece → List HopSpan
+spans_in f ps = map span_of (filter (λ p. same_family p.block.family f) ps)

@@ -1,3 +1,4 @@
+pub mod InnerHeads
 pub mod Ranges
 pub mod InnerRanges
 pub mod Indexes

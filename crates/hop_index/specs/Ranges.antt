@@ -1,21 +1,12 @@
--- Ranges of numbers, each with a hop.
-use Rattle.std.specs.Prelude.{ℕ, ◌≤◌, ◌&&◌, nat_le, if◌then◌else◌, Bool, List, [], ◌∷◌, Option, Some, None}
+-- Ranges of numbers, each with a hop or none.
+use Rattle.std.specs.Prelude.{ℕ, nat_le, if◌then◌else◌, List, [], ◌∷◌, Option, None}
 
--- the numbers from first to last have this hop
+-- the numbers above the range before, up to the last one, have this hop or none
 pub record HopRange : Type 0 where
-  pub first : ℕ
   pub last : ℕ
-  pub hop : ℕ
+  pub hop : Option ℕ
 
--- the number is in the range
-abbrev pub IsIn : ℕ → HopRange → Type 0
-IsIn x r = (r.first ≤ x) × (x ≤ r.last)
-
--- the test of `IsIn`
-abbrev pub is_in : ℕ → HopRange → Bool
-is_in x r = nat_le r.first x && nat_le x r.last
-
--- the hop of the range that contains the number
+-- the hop of the first range that ends at the number or above, or none if no range does
 abbrev pub hop_in : List HopRange → ℕ → Option ℕ
 hop_in [] x = None
-hop_in (r ∷ rs) x = if is_in x r then Some r.hop else hop_in rs x
+hop_in (r ∷ rs) x = if nat_le x r.last then r.hop else hop_in rs x

@@ -1,18 +1,16 @@
 //! The index of the hops of the addresses of both families.
-ghost use Rattle.std.specs.Prelude.{◌≡◌, ℕ, IfErr, IfOk, Option, length, map};
+ghost use Rattle.std.specs.Prelude.{◌≡◌, ◌^◌, ℕ, IfErr, IfOk, Option, length, map};
 ghost use Rattle.ipnet_addr.specs.Addresses.{Address, IsAddress, Ipv4, Ipv6, address_of};
 ghost use Rattle.route_laws.specs.Flats.{IsFlat};
 ghost use Rattle.route_laws.specs.Networks.{routes_of};
 ghost use Rattle.route_laws.specs.Tables.{hop_at};
 ghost use Rattle.prefix_trie.specs.declared.refused.Refused.TheVariants.{Memory};
 ghost use Rattle.hop_index.specs.Indexes.{hop_of};
-ghost use Rattle.hop_index.specs.InnerRanges.{IsSplit, ranges_in};
+ghost use Rattle.hop_index.specs.InnerRanges.{AreRangesOf, spans_in};
 
-use crate::marks::Ranges4;
-use crate::ranges::Range;
-use crate::shorts::add_range;
-use crate::shorts4::Short4;
-use crate::shorts6::{Ranges6, Short6};
+use crate::lookups::Lookups;
+use crate::ranges::Ranges;
+use crate::stored::{Halves, Stored};
 use ipnet::IpAddr;
 use ipnet_addr::number::Number;
 use prefix_trie::Refused;
@@ -20,30 +18,21 @@ use route_table::{Flat, HopRun, HopTable, RouteTable};
 use std::alloc::{AllocError, Global};
 use std::marker::Model;
 
-/// Splits the runs of a flat list: the short ranges and the other ranges of IPv4, then those of IPv6.
-fn ranges(
-    alloc: Global,
-    mut flat: Flat<'_>,
-) -> Result<(Vec<Short4>, Vec<Range<u32>>, Vec<Short6>, Vec<Range<u128>>), AllocError>
+/// The ranges of the runs of a flat list: those of IPv4, and those of IPv6.
+fn ranges(alloc: Global, mut flat: Flat<'_>) -> Result<(Ranges<u32>, Ranges<Halves>), AllocError>
     requires { (h : Address → Option ℕ) × IsFlat h flat }
-    ensures ipv4 { IfOk result (λ r. IsSplit (ranges_in Ipv4 flat.entry) r.0.items r.1.items) }
-    ensures ipv6 { IfOk result (λ r. IsSplit (ranges_in Ipv6 flat.entry) r.2.items r.3.items) }
+    ensures ipv4 { IfOk result (λ r. AreRangesOf (spans_in Ipv4 flat.entry) (2 ^ 32) r.0) }
+    ensures ipv6 { IfOk result (λ r. AreRangesOf (spans_in Ipv6 flat.entry) (2 ^ 128) r.1) }
 {
-    let mut shorts4 = Vec::new(alloc);
-    let mut others4 = Vec::new(alloc);
-    let mut shorts6 = Vec::new(alloc);
-    let mut others6 = Vec::new(alloc);
+    let mut v4 = Ranges::new(alloc);
+    let mut v6 = Ranges::new(alloc);
     'run: while let Some(run) = flat.next_run() {
         match run {
-            HopRun::V4(first, last, hop) => {
-                add_range(&mut shorts4, &mut others4, Range::of_ends(first, last, hop))?
-            }
-            HopRun::V6(first, last, hop) => {
-                add_range(&mut shorts6, &mut others6, Range::of_ends(first, last, hop))?
-            }
+            HopRun::V4(first, last, hop) => v4.add(first as u128, last as u128, hop)?,
+            HopRun::V6(first, last, hop) => v6.add(first, last, hop)?,
         }
     }
-    Ok((shorts4, others4, shorts6, others6))
+    Ok((v4, v6))
 }
 
 /// The hop of each address, as a table had it when the index was made. The index is a snapshot: later changes don't reach it.
@@ -51,8 +40,8 @@ fn ranges(
 /// Contracts see it by `hop_of`, the hop of each address.
 #[derive(Drop)]
 pub struct HopIndex {
-    v4: Ranges4,
-    v6: Ranges6,
+    v4: Lookups<u32>,
+    v6: Lookups<Halves>,
 }
 
 impl Model for HopIndex {
@@ -126,10 +115,10 @@ impl HopIndex {
         requires { (h : Address → Option ℕ) × IsFlat h flat }
         ensures { IfOk result (λ i. (h : Address → Option ℕ) → IsFlat h flat.entry → (x : Address) → IsAddress x → hop_of i x ≡ h x) }
     {
-        let (shorts4, others4, shorts6, others6) = ranges(alloc, flat)?;
+        let (v4, v6) = ranges(alloc, flat)?;
         Ok(HopIndex {
-            v4: Ranges4::new(alloc, shorts4, others4)?,
-            v6: Ranges6::new(alloc, shorts6, others6)?,
+            v4: Lookups::new(alloc, v4)?,
+            v6: Lookups::new(alloc, v6)?,
         })
     }
 
@@ -149,7 +138,7 @@ impl HopIndex {
     {
         match addr {
             IpAddr::V4(addr) => self.v4.hop(u32::of_addr(addr)),
-            IpAddr::V6(addr) => self.v6.hop(u128::of_addr(addr)),
+            IpAddr::V6(addr) => self.v6.hop(Halves::of_bits(u128::of_addr(addr))),
         }
     }
 

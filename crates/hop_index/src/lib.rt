@@ -4,10 +4,8 @@
 pub use index::HopIndex;
 pub use prefix_trie::Refused;
 
-mod blocks;
+mod cells;
 mod index;
-mod marks;
+mod lookups;
 mod ranges;
-mod shorts;
-mod shorts4;
-mod shorts6;
+mod stored;

@@ -10,9 +10,8 @@ use std::alloc::Global;
 use std::process::Abort;
 use std::str::FromStr;
 
-/// Routes that touch, nest and leave gaps. They lie at both ends of both families, of 2000::/3, and of a chunk of the index. Some begin
-/// in blocks of their own; some share one block of 256 addresses, or one /64. Some IPv6 routes are too long for an entry of 12 bytes, or
-/// end inside a /48.
+/// Routes that touch, nest and leave gaps. They lie at both ends of both families, of 2000::/3, and of a chunk of the index. Some share
+/// one block of 256 addresses, or one /64. One has the hop that stands for none elsewhere.
 const ROUTES: &str = "0.0.0.0/30 1, 0.0.64.0/18 2, 0.0.128.0/32 2, 10.0.0.0/8 4, 10.1.0.0/16 drop, \
      10.1.2.0/24 4294967295, 10.1.2.3/32 0, 20.0.1.0/24 16, 20.0.3.0/24 17, 20.0.5.128/25 18, \
      255.255.255.254/31 5, 255.255.255.255/32 6, ::/128 7, 1fff:ff00::/24 12, 2000::/20 13, \
@@ -165,8 +164,8 @@ fn indexes(rt: HostRuntime) {
     carry_out(&rt, rt.alloc(), &INDEXES);
 }
 
-/// Hops by an index of 2001:db8::/32 alone: before its chunk, in it, and after it.
-static OF_ONE: [(&str, Option<u32>); 8] = [
+/// Hops by an index of 2001:db8::/32 alone: before its chunk, in it, after it, and at the highest addresses.
+static OF_ONE: [(&str, Option<u32>); 10] = [
     ("::1", None),
     ("2001:db7:ffff:ffff:ffff:ffff:ffff:ffff", None),
     ("2001:db8::", Some(8)),
@@ -175,6 +174,8 @@ static OF_ONE: [(&str, Option<u32>); 8] = [
     ("2001:1000::", None),
     ("3fff::1", None),
     ("ffff::", None),
+    ("ffff:ffff:ffff:ffff:ffff:ffff:ffff:ffff", None),
+    ("255.255.255.255", None),
 ];
 
 /// Hops by an index of the last /32 of 2000::/3 alone.
@@ -190,4 +191,35 @@ static OF_THE_LAST: [(&str, Option<u32>); 5] = [
 fn indexes_of_one_network(rt: HostRuntime) {
     index_of_has(&rt, rt.alloc(), "2001:db8::/32 8", &OF_ONE);
     index_of_has(&rt, rt.alloc(), "3fff:ffff::/32 14", &OF_THE_LAST);
+}
+
+/// Host routes of which all end in one cell, so that they are searched by halves.
+const HOSTS: &str = "10.1.0.0/32 4294967295, 10.1.0.2/32 2, 10.1.0.3/32 3, 10.1.0.5/32 5, 10.1.0.7/32 7, 10.1.0.9/32 9, \
+     2001:db8::/128 10, 2001:db8::2/128 12, 2001:db8::3/128 4294967295, 2001:db8::5/128 15, 2001:db8::7/128 17, 2001:db8::9/128 19";
+
+/// Hops by an index of these.
+static OF_HOSTS: [(&str, Option<u32>); 18] = [
+    ("10.0.255.255", None),
+    ("10.1.0.0", Some(4294967295)),
+    ("10.1.0.1", None),
+    ("10.1.0.2", Some(2)),
+    ("10.1.0.3", Some(3)),
+    ("10.1.0.4", None),
+    ("10.1.0.7", Some(7)),
+    ("10.1.0.9", Some(9)),
+    ("10.1.0.10", None),
+    ("2001:db7:ffff:ffff:ffff:ffff:ffff:ffff", None),
+    ("2001:db8::", Some(10)),
+    ("2001:db8::1", None),
+    ("2001:db8::2", Some(12)),
+    ("2001:db8::3", Some(4294967295)),
+    ("2001:db8::4", None),
+    ("2001:db8::5", Some(15)),
+    ("2001:db8::9", Some(19)),
+    ("2001:db8::a", None),
+];
+
+#[test]
+fn an_index_of_hosts(rt: HostRuntime) {
+    index_of_has(&rt, rt.alloc(), HOSTS, &OF_HOSTS);
 }

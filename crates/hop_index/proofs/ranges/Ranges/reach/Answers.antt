@@ -1,0 +1,20 @@
+use Rattle.std.proofs.Common.{◌≡◌, ◌+◌, ◌-◌, ◌<◌, ℕ, [], ◌∷◌, ◌++◌, List, None, length, arith}
+use Rattle.hop_index.specs.Ranges.{HopRange}
+use Rattle.hop_index.specs.InnerRanges.{EndsBelow}
+use Rattle.hop_index.proofs.Searches.{below_later, push_ascends, push_below, push_none, push_reaches}
+use Rattle.hop_index.proofs.ranges.Ranges.reach.Goals as goal
+
+pub returns : goal.returns
+returns g c =
+    let rs : List HopRange = c.args.self.now in
+    let before : ℕ = g.N.Stored.number c.of_bits-before.result in
+    let r : HopRange = record { last = before; hop = None } in
+    let some = c.if-number-eq0.false in
+    let is = c.of_bits-before.ensures in
+    let below : EndsBelow rs before (length rs) = c.end_below.ensures.0 c.if-not-end_below.false in
+    rw c.in_ok-push.ensures (record {
+      ascending = push_ascends rs r c.requires.ascending (below_later rs before (before + 1) (length rs) (omega arith) below);
+      below = push_below rs r c.args.number c.requires.below (omega arith);
+      hops = λ x. push_none rs before x;
+      reached = λ x l. push_reaches rs r x (omega arith);
+    })

@@ -1,0 +1,118 @@
+//! Lookups in the ranges of a family.
+ghost use Rattle.std.specs.Prelude.{◌≡◌, ℕ, ◌+◌, ◌^◌, ◌<◌, IfOk, length};
+ghost use Rattle.hop_index.specs.Ranges.{hop_in};
+ghost use Rattle.hop_index.specs.InnerRanges.{AreAscending, ArePadded, EndsBelow, EndsFrom};
+
+use crate::cells::{cell_at, cells_of, tops_of};
+use crate::ranges::Ranges;
+use crate::stored::Stored;
+use std::alloc::{AllocError, Global};
+use std::marker::Model;
+
+/// The number of ranges that end below the number, if that is at least `low` and at most `low + 4`.
+#[inline]
+fn among_four<N: Stored>(ranges: &Ranges<N>, low: u32, number: N) -> usize
+    requires ascending { AreAscending ranges.now }
+    requires low { EndsBelow ranges.now (N.number number) low }
+    requires high { EndsFrom ranges.now (N.number number) (low + 4) }
+    ensures below { EndsBelow ranges.now (N.number number) result }
+    ensures from { EndsFrom ranges.now (N.number number) result }
+{
+    let low = low as usize;
+    let mut count = low;
+    for step in 0..4 {
+        if ranges.last(low + step).is_below(number) {
+            count += 1;
+        }
+    }
+    count
+}
+
+/// The number of ranges that end below the number, if that is at least `low` and at most `high`.
+fn by_halves<N: Stored>(ranges: &Ranges<N>, mut low: usize, mut high: usize, number: N) -> usize
+    requires ascending { AreAscending ranges.now }
+    requires low { EndsBelow ranges.now (N.number number) low }
+    requires high { EndsFrom ranges.now (N.number number) high }
+    ensures below { EndsBelow ranges.now (N.number number) result }
+    ensures from { EndsFrom ranges.now (N.number number) result }
+{
+    while low < high {
+        let middle = low + (high - low) / 2;
+        if ranges.last(middle).is_below(number) {
+            low = middle + 1;
+        } else {
+            high = middle;
+        }
+    }
+    low
+}
+
+/// The number of ranges that end below the number, which is at least `low` and at most `high`.
+#[inline]
+fn ended<N: Stored>(ranges: &Ranges<N>, low: u32, high: u32, number: N) -> usize
+    requires ranges { ArePadded ranges.now (2 ^ N.width) }
+    requires number { N.number number < 2 ^ N.width }
+    requires low { EndsBelow ranges.now (N.number number) low }
+    requires high { EndsFrom ranges.now (N.number number) high }
+    ensures below { EndsBelow ranges.now (N.number number) result }
+    ensures from { EndsFrom ranges.now (N.number number) result }
+{
+    if high as usize <= low as usize + 4 {
+        among_four(ranges, low, number)
+    } else {
+        by_halves(ranges, low as usize, high as usize, number)
+    }
+}
+
+/// The hops of the addresses of a family: ranges, and cells that leave few of them for an address.
+///
+/// Contracts see the ranges.
+#[derive(Drop)]
+pub(crate) struct Lookups<N: Stored> {
+    tops: Vec<u32>,
+    cells: Vec<u32>,
+    ranges: Ranges<N>,
+}
+
+impl<N: Stored> Model for Lookups<N> {
+    ghost use Rattle.std.specs.Prelude.{◌≡◌, ◌+◌, ◌^◌, List, length, slice_index};
+    ghost use Rattle.hop_index.specs.Ranges.{HopRange};
+    ghost use Rattle.hop_index.specs.InnerRanges.{AreCells, ArePadded, AreTops, cell_of};
+
+    ghost Value = { List HopRange };
+
+    ghost view = { λ a. a.ranges };
+
+    ghost invariant = { λ a. AreTops a.tops.items × AreCells (λ x. cell_of a.tops.items (N.head_of x)) a.ranges a.cells.items × (length a.cells.items ≡ slice_index a.tops.items 65536 + 1) × ArePadded a.ranges (2 ^ N.width) };
+}
+
+impl<N: Stored> Lookups<N> {
+    /// Compiles the lookup table of the ranges.
+    ///
+    /// # Errors
+    /// `AllocError` if an allocation fails.
+    pub(crate) fn new(alloc: Global, mut ranges: Ranges<N>) -> Result<Lookups<N>, AllocError>
+        requires ascending { AreAscending ranges }
+        requires within { EndsBelow ranges (2 ^ N.width) (length ranges) }
+        ensures { IfOk result (λ l. (x : ℕ) → hop_in l x ≡ hop_in ranges x) }
+    {
+        ranges.pad()?;
+        let tops = tops_of(alloc, &ranges)?;
+        let cells = cells_of(alloc, &ranges, &tops)?;
+        Ok(Lookups {
+            tops,
+            cells,
+            ranges,
+        })
+    }
+
+    /// The hop of the number.
+    #[inline]
+    pub(crate) fn hop(&self, number: N) -> Option<u32>
+        ensures { result ≡ hop_in self.now (N.number number) }
+    {
+        let cell = cell_at(&self.tops, number.head());
+        let place = ended(&self.ranges, self.cells[cell], self.cells[cell + 1], number);
+        self.ranges.hop(place)
+    }
+}

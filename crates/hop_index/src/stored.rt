@@ -1,0 +1,126 @@
+//! The numbers of addresses as an index stores them: in 4 bytes for IPv4, in 16 for IPv6.
+ghost use Rattle.std.specs.Prelude.{◌≡◌, ℕ, ◌+◌, ◌*◌, ◌/◌, ◌-◌, ◌^◌, ◌<◌, ◌≤◌, ◌↔◌, IsTrue};
+ghost use Rattle.hop_index.specs.InnerHeads.{halved_ascends, halved_within, shifted_ascends, shifted_within};
+
+/// The number of an address of one family: `u32` for IPv4, `Halves` for IPv6.
+pub(crate) trait Stored: Copy + Drop {
+    /// The number of bits.
+    ghost width: { ℕ };
+
+    /// The number.
+    ghost number: { Self → ℕ };
+
+    /// The first 64 bits of a number. A number of IPv4 has zeros after its 32 bits.
+    ghost head_of: { ℕ → ℕ };
+
+    /// Returns the number of these bits.
+    fn of_bits(bits: u128) -> Self
+        requires { bits < 2 ^ width }
+        ensures { number result ≡ bits };
+
+    /// Returns the highest number.
+    fn highest() -> Self
+        ensures { number result + 1 ≡ 2 ^ width };
+
+    /// Returns the first 64 bits.
+    fn head(self) -> u64
+        ensures head { result ≡ head_of (number self) }
+        ensures within { number self < 2 ^ width };
+
+    /// Returns whether the number is below the other.
+    fn is_below(self, other: Self) -> bool
+        ensures { IsTrue result ↔ number self < number other };
+
+    /// A higher number has no lower first bits.
+    ghost ascends: { (x y : ℕ) → x ≤ y → head_of x ≤ head_of y };
+
+    /// The first bits of each number fit 64 bits.
+    ghost heads: { (x : ℕ) → x < 2 ^ width → head_of x < 2 ^ 64 };
+}
+
+impl Stored for u32 {
+    ghost width = { 32 };
+
+    ghost number = { λ x. x };
+
+    ghost head_of = { λ x. x * 2 ^ 32 };
+
+    ghost ascends = { shifted_ascends };
+
+    ghost heads = { shifted_within };
+
+    #[inline]
+    fn of_bits(bits: u128) -> u32 {
+        bits as u32
+    }
+
+    #[inline]
+    fn highest() -> u32 {
+        u32::MAX
+    }
+
+    #[inline]
+    fn head(self) -> u64 {
+        u64::from(self) << 32
+    }
+
+    #[inline]
+    fn is_below(self, other: u32) -> bool {
+        self < other
+    }
+}
+
+/// The number of an IPv6 address in two halves, which take 8 bytes less beside a hop than a `u128`.
+#[derive(Clone, Copy)]
+pub(crate) struct Halves {
+    high: u64,
+    low: u64,
+}
+
+impl Halves {
+    /// The number.
+    #[inline]
+    fn bits(self) -> u128
+        ensures { result ≡ self.high * 2 ^ 64 + self.low }
+    {
+        (u128::from(self.high) << 64) + u128::from(self.low)
+    }
+}
+
+impl Stored for Halves {
+    ghost width = { 128 };
+
+    ghost number = { λ x. x.high * 2 ^ 64 + x.low };
+
+    ghost head_of = { λ x. x / 2 ^ 64 };
+
+    ghost ascends = { halved_ascends };
+
+    ghost heads = { halved_within };
+
+    #[inline]
+    fn of_bits(bits: u128) -> Halves {
+        Halves {
+            high: (bits >> 64) as u64,
+            low: (bits % (1 << 64)) as u64,
+        }
+    }
+
+    #[inline]
+    fn highest() -> Halves {
+        Halves {
+            high: u64::MAX,
+            low: u64::MAX,
+        }
+    }
+
+    #[inline]
+    fn head(self) -> u64 {
+        self.high
+    }
+
+    #[inline]
+    fn is_below(self, other: Halves) -> bool {
+        self.bits() < other.bits()
+    }
+}
