@@ -264,7 +264,7 @@ module _ {W : Type 0} (contents : W → Option (List ℕ)) (c last : Installing)
 
   wanting : (o : Option Note) → Why_not Why.Memory o → (note : Note) × (o ≡ Some note) × MayWant c note × (new ≡ mid)
   wanting None w = absurd (let e = w.0 in cc)
-  wanting (Some note) w = (note, refl, w)
+  wanting (Some note) w = (note, refl, w.0, w.1)
 
   failing : (o : Option Note) → Why_not Why.Write o → (n : Noted) × (o ≡ Some n.note) × Fails contents c n mid new
   failing None w = absurd (let e = w.0 in cc)
