@@ -81,7 +81,7 @@ module _ (r : HopSpan) (qs rest : List HopSpan) (some : r.first ≤ r.last)
         subst P (sym e) here)
         (λ j. w.apart s (In-right s qs rest j))
         i;
-    hops = λ x. ap (λ (o : Option ℕ). hop_or (hop_in rs x) o) (run_hop_in x (is_in x r) refl) ∙ w.hops x;
+    hops = λ x. ap (λ (o : Option ℕ). hop_or (hop_in rs x) o) (run_span_hop x (is_in x r) refl) ∙ w.hops x;
   }
 
 -- the next run of a flat list

@@ -35,7 +35,7 @@ run-preserved-in-Continue-1 c =
     let given : BeginsWithRun c.run.flat (run.V4 c.in-V4.first c.in-V4.last c.in-V4.hop) c.next_run.new.self = rw (sym c.in-V4.is) c.in-Some.ensures in
     let front = run_in_front c.run.flat c.next_run.new.self _ given (2 ^ 32) _ c.run.v4 c.run.invariant.ipv4 in
     record {
-      ipv4 = walk_on (2 ^ 32) _ c.run.v4 _ _ front c.add.new.self c.in_ok-add.ensures.ascending c.in_ok-add.ensures.below c.in_ok-add.ensures.within c.in_ok-add.ensures.hops;
+      ipv4 = walk_on (2 ^ 32) _ c.run.v4 _ _ front c.add.new.self c.in_ok-add-in-V4.ensures.ascending c.in_ok-add-in-V4.ensures.below c.in_ok-add-in-V4.ensures.within c.in_ok-add-in-V4.ensures.hops;
       ipv6 = walk_kept c.run.flat c.next_run.new.self _ given Ipv6 (2 ^ 128) _ c.run.v6 (λ e. let r = ap rank e in omega arith) c.run.invariant.ipv6;
     }
 
