@@ -343,7 +343,7 @@ def check_single(own, hops):
 
 
 def many_blocks(session, table):
-    """Routes around many networks come and go. So many blocks change that a least table takes the place of what is installed."""
+    """Routes around many networks come and go, so hundreds of blocks change at once."""
     inner = [f"21.{DRAWN.randrange(256)}.{DRAWN.randrange(256)}.0/24" for _ in range(40)]
     inner += [f"2b00:{DRAWN.randrange(1 << 16):x}:{DRAWN.randrange(1 << 16):x}::/48" for _ in range(20)]
     around = ("add 21.0.0.0/8 3", "add 2b00::/16 3", "del 21.0.0.0/8 3", "del 2b00::/16 3")
