@@ -194,7 +194,8 @@ fn indexes_of_one_network(rt: HostRuntime) {
 }
 
 /// Host routes of which all end in one cell, so that they are searched by halves.
-const HOSTS: &str = "10.1.0.0/32 4294967295, 10.1.0.2/32 2, 10.1.0.3/32 3, 10.1.0.5/32 5, 10.1.0.7/32 7, 10.1.0.9/32 9, \
+const HOSTS: &str =
+    "10.1.0.0/32 4294967295, 10.1.0.2/32 2, 10.1.0.3/32 3, 10.1.0.5/32 5, 10.1.0.7/32 7, 10.1.0.9/32 9, \
      2001:db8::/128 10, 2001:db8::2/128 12, 2001:db8::3/128 4294967295, 2001:db8::5/128 15, 2001:db8::7/128 17, 2001:db8::9/128 19";
 
 /// Hops by an index of these.
