@@ -300,17 +300,17 @@ module _ {R W : Type 0} (remaining : R → Option (List ℕ)) (contents : W → 
         )
     line_ends Why.Memory s =
         let c = after_notes begin s.notes in
-        let (note, is, w) = wanting contents c s.last s.piece s.mid new (note_of s.piece) (why_not contents c s.last s.piece s.mid new Why.Memory s.stops) in
+        let (note, is, wants, same) = wanting contents c s.last s.piece s.mid new (note_of s.piece) (why_not contents c s.last s.piece s.mid new Why.Memory s.stops) in
         inr (
           record {
             meets = meets Why.Memory s;
             note = note;
             is_note = is;
-            wants = w.0;
-            gives = subst (GivesOutput contents s.notes old) (sym w.1) (gives_output contents c s.before s.notes old s.mid s.taken);
+            wants = wants;
+            gives = subst (GivesOutput contents s.notes old) (sym same) (gives_output contents c s.before s.notes old s.mid s.taken);
           },
           none_read,
-          ap (λ v. v.faults) w.1 ∙ s.taken.closed.faults,
+          ap (λ v. v.faults) same ∙ s.taken.closed.faults,
         )
     line_ends Why.Write s =
         let c = after_notes begin s.notes in

@@ -3,7 +3,7 @@ use Rattle.std.proofs.Common.{◌≡◌, ◌==◌, ℕ, zero, suc, ◌<◌, ◌^
 use Rattle.std.specs.Option.{option_map_or}
 use Rattle.ipnet_addr.specs.Addresses.{Address, IsAddress, Ipv4, Ipv6}
 use Rattle.ipnet_addr.proofs.Members.{In}
-use Rattle.ipnet_addr.proofs.Ascending.{In-from_All, Contains-from_In, Rising}
+use Rattle.ipnet_addr.proofs.Ascending.{In-from_All, Contains-from_In}
 use Rattle.ipnet_blocks.specs.Blocks.{Block, IsBlock, HasAddress, first_of}
 use Rattle.ipnet_blocks.specs.Maximal.{IsWithin, maximal_of}
 use Rattle.ipnet_blocks.proofs.BlockLaws.{has_first}
@@ -33,7 +33,7 @@ use Rattle.route_feed.specs.Streams.{Change, change_of, is_done, painted_over}
 use Rattle.route_feed.specs.InnerReplies.{choice_line, own_line}
 use Rattle.route_feed.proofs.ReadNets.{IsInRange}
 use Rattle.route_feed.proofs.Reread.{IsTold, AreTold, AreTold-map, route_told, piece_told, change_told, count_told, own_told}
-use Rattle.route_feed.proofs.Seam.{Apart, changes_in, change_painted, changes_apart}
+use Rattle.route_feed.proofs.Seam.{changes_in, change_painted}
 
 -- the changes of lines that this one closes
 abbrev pub gain : List Reply → Closing → List Change
@@ -43,7 +43,6 @@ pub record Form (M : List Stored) (t : Answer) : Type 0 where
   pub body_told : AreTold t.body
   pub paints : (x : Address) → IsAddress x → painted_over (hop_at (routes_of M) x) (gain t.body t.closing) x ≡ hop_at (routes_of t.next) x
   pub table : IsStoredTable t.next
-  pub apart : Rising Apart (changes_in t.body)
 
 nothing_gained : (b : Bool) → ◌≡◌ {A = List Change} (cond b [] []) []
 nothing_gained true = refl
@@ -75,11 +74,10 @@ module _ (M : List Stored) (m : IsStoredTable M) where
     body_told = tt;
     paints = λ x a. ap (λ cs. painted_over (hop_at routes x) cs x) (nothing_gained (is_done closing));
     table = m;
-    apart = tt;
   }
 
   form_told : (ls : List Reply) → AreTold ls → changes_in ls ≡ [] → Form M (told M ls)
-  form_told ls h e = record { body_told = h; paints = λ x a. ap (λ cs. painted_over (hop_at routes x) cs x) e; table = m; apart = subst (Rising Apart) (sym e) tt }
+  form_told ls h e = record { body_told = h; paints = λ x a. ap (λ cs. painted_over (hop_at routes x) cs x) e; table = m }
 
   form_changed : (N : List Stored) → IsStoredTable N → (one : Option ℕ)
       → ((b : Block) → In b (maximal_of (changed routes (routes_of N))) → (x : Address) → HasAddress b x → hop_at (routes_of N) x ≡ one) → Form M (changed_to M N)
@@ -89,7 +87,6 @@ module _ (M : List Stored) (m : IsStoredTable M) where
         (λ b i. change_told (routes_of N) (routes_are_table N n) b (((changed_is_maximal routes (routes_of N)).exact b).0 (Contains-from_In (maximal_of (changed routes (routes_of N))) b i)).within.block);
     paints = change_painted routes (routes_of N) one all;
     table = n;
-    apart = changes_apart routes (routes_of N);
   }
 
   -- a change of the choices of one block

@@ -1,8 +1,8 @@
 -- The lines of a change paint what has changed.
-use Rattle.std.proofs.Common.{◌≡◌, ℕ, ◌⊎◌, inl, inr, ⊎_elim, Bool, true, false, cond, List, [], ◌∷◌, map, Option, Some, None, refl, sym, ap, ◌∙◌, subst}
+use Rattle.std.proofs.Common.{◌≡◌, ℕ, ◌⊎◌, inl, inr, ⊎_elim, Bool, true, false, cond, List, [], ◌∷◌, map, Option, Some, None, refl, sym, ap, ◌∙◌}
 use Rattle.std.specs.List.{filter_map}
 use Rattle.ipnet_addr.proofs.Members.{In}
-use Rattle.ipnet_addr.proofs.Ascending.{In-from_Any, Rising, Rising-from_pairs}
+use Rattle.ipnet_addr.proofs.Ascending.{In-from_Any}
 use Rattle.ipnet_addr.specs.Addresses.{Address, IsAddress}
 use Rattle.ipnet_blocks.specs.Blocks.{Block, HasAddress, has_address, first_of}
 use Rattle.ipnet_blocks.specs.Maximal.{maximal_of}
@@ -10,13 +10,8 @@ use Rattle.ipnet_blocks.proofs.BlockLaws.{has_first}
 use Rattle.ipnet_blocks.proofs.BlockTests.{has_from_test, test_from_has}
 use Rattle.ipnet_blocks.proofs.Maximals.{maximal_is_union}
 use Rattle.route_lines.specs.declared.reply.Reply.{Reply}
-use Rattle.route_choices.proofs.Kept.{In-map, map_In}
-use Rattle.route_choices.specs.Choices.{default_preference}
-use Rattle.route_choices.specs.declared.hop.Hop.TheVariants.{Drop}
-use Rattle.route_laws.specs.Batches.{changes_to}
 use Rattle.route_laws.specs.Changes.{changed}
 use Rattle.route_laws.specs.Tables.{Route, Changed, hop_at}
-use Rattle.route_laws.proofs.Batches as batch
 use Rattle.route_laws.proofs.Changes.{changed_is_maximal}
 use Rattle.route_laws.proofs.NetworksAt.{of_network_at}
 use Rattle.route_feed.specs.Steps.{change_line, change_lines}
@@ -26,10 +21,6 @@ use Rattle.route_feed.proofs.Told.{same_or_not}
 -- the changes that lines tell
 abbrev pub changes_in : List Reply → List Change
 changes_in ls = filter_map change_of ls
-
--- two changes have no address in common
-abbrev pub Apart : Change → Change → Type 0
-Apart c d = (x : Address) → HasAddress c.block x → HasAddress d.block x → ⊥
 
 abbrev change_at : (Address → Option ℕ) → Block → Change
 change_at h b = record { block = b; number = h (first_of b) }
@@ -81,21 +72,3 @@ module _ (M N : List Route) where
       ∙ paints (hop_at N) x (hop_at N x) (hop_at M x) (maximal_of (changed M N))
       (λ b i k. all b i (first_of b) (has_first b) ∙ sym (all b i x k))
       (⊎_elim (λ e. inl e) (λ d. inr (in_changes x a d)) (same_or_not (hop_at M x) (hop_at N x)))
-
--- changes of blocks that have no address in common
-blocks_apart : (h : Address → Option ℕ) (bs : List Block) → Rising batch.Apart (changes_to Drop bs) → Rising Apart (map (change_at h) bs)
-blocks_apart h [] u = tt
-blocks_apart h (b ∷ bs) u = (
-  (λ d i. let t = In-map (change_at h) bs d i in
-      let p = u.0 (record { block = t.0; hop = Drop; pref = default_preference }) (map_In (λ c. record { block = c; hop = Drop; pref = default_preference }) bs t.0 t.1) in
-      subst (λ (e : Change). Apart (change_at h b) e) (sym t.2) p),
-  blocks_apart h bs u.1,
-)
-
--- the lines of a change tell changes without a common address
-pub changes_apart : (M N : List Route) → Rising Apart (changes_in (change_lines M N))
-unfolding change_lines
-changes_apart M N =
-    let bs = maximal_of (changed M N) in
-    let told = batch.told_are_changes (Changed M N) bs Drop (changed_is_maximal M N) tt in
-    subst (Rising Apart) (sym (changes_read (hop_at N) bs)) (blocks_apart (hop_at N) bs (Rising-from_pairs batch.Apart (changes_to Drop bs) told.1))
