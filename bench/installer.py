@@ -8,12 +8,10 @@ import page
 import program
 
 CHANGES = 162_000
-# For a reply with more blocks, the installer installs a least table.
-BLOCKS = 256
 
-# The results for the changes of a table: the operations of each kind at the first `sync`, (operations, routes after them) for each batch,
-# the number of large replies, and the time and memory of the installer and of a follower.
-Changed = namedtuple("Changed", "begun batches large kept follow")
+# The results for the changes of a table: the operations of each kind at the first `sync`; (operations, routes after them) for each batch;
+# the time and memory of the installer and of a follower.
+Changed = namedtuple("Changed", "begun batches kept follow")
 
 TEXT = """`routes_fib` reads the leader's output, and `routes follow` the same lines. *Kept* has `sync` first, so each change is a batch of
 its own. *At once* has `sync` last, as at a start, so one batch installs the least table. The operations make a table with the leader's hops
@@ -22,10 +20,9 @@ each time."""
 CHANGED = """If all networks of the real feed are installed as announced, a first `sync` takes {installs:,} installs and {removes:,}
 removes. In another run its least table of {least:,} routes is installed, and {commands:,} commands follow (`bench/feeds.py over`): networks
 are withdrawn, announced again, and get another hop. They give {batches:,} batches with {operations:,} operations. All but one in a thousand
-batches have at most {usual:,} operations, and the largest has {largest:,}. {large} of the replies had more than {blocks} blocks and led to
-a least table at once. After them {before:,} routes are installed; a second `sync`, of {last:,} operations, leaves {after:,}. For the feed,
-these commands and both `sync`, `routes_fib` took {kept.seconds:.2f} s and {kept_mb:.1f} MB; `routes follow` took {follow.seconds:.2f} s and
-{follow_mb:.1f} MB for the same replies."""
+batches have at most {usual:,} operations, and the largest has {largest:,}. After them {before:,} routes are installed; a second `sync`, of
+{last:,} operations, leaves {after:,}. For the feed, these commands and both `sync`, `routes_fib` took {kept.seconds:.2f} s and
+{kept_mb:.1f} MB; `routes follow` took {follow.seconds:.2f} s and {follow_mb:.1f} MB for the same replies."""
 
 
 def replayed(path):
@@ -51,17 +48,6 @@ def words(path):
     with open(path, "rb") as file:
         found = [line[:1] for line in file]
     return found.count(b"i"), found.count(b"r")
-
-
-def large(log):
-    """The number of replies that change more than the limit."""
-    found = blocks = 0
-    for line in log.splitlines():
-        blocks += line.startswith((b"set ", b"unset "))
-        if line == b"ok":
-            found += blocks > BLOCKS
-            blocks = 0
-    return found
 
 
 def beside(bench, led, sessions):
@@ -98,6 +84,7 @@ def of_feed(bench, title, feed):
         f"{kept.kilobytes / 1024:.1f}",
         f"{len(batches['kept']):,}",
         operations["kept"],
+        f"{max(count for count, _ in batches['kept'][1:]):,}",
         f"{begun.seconds:.2f}",
         f"{begun.kilobytes / 1024:.1f}",
         operations["begun"],
@@ -124,7 +111,7 @@ def changed(bench, feed, count):
     (bench.folder / "session").write_bytes(have + front + b"sync\n")
     measure.once([bench.installer()], bench.folder / "session", bench.folder / "done")
     seen, batches = beside(bench, led, {"kept": front + b"sync\n" + log[len(front):] + b"sync\n"})
-    return Changed(words(bench.folder / "done"), batches["kept"], large(log[len(front):]), seen["kept"], seen["follow"])
+    return Changed(words(bench.folder / "done"), batches["kept"], seen["kept"], seen["follow"])
 
 
 def changes_told(commands, changed):
@@ -140,8 +127,6 @@ def changes_told(commands, changed):
         operations=sum(counts),
         usual=counts[len(counts) * 999 // 1000],
         largest=counts[-1],
-        large=changed.large,
-        blocks=BLOCKS,
         before=between[-1][1],
         last=last[0],
         after=last[1],
@@ -162,6 +147,6 @@ def measured(bench):
     with measure.Others() as others:
         rows = [of_feed(bench, title, feed) for title, feed in feeds.items()]
         found = changed(bench, bench.real(), CHANGES // bench.part) if bench.real() else None
-    head = ["feed", "follow s", "kept s", "lines/s", "kept MB", "batches", "operations", "at once s", "at once MB", "at once operations"]
+    head = ["feed", "follow s", "kept s", "lines/s", "kept MB", "batches", "operations", "largest batch", "at once s", "at once MB", "at once operations"]
     told = [page.filled(changes_told(CHANGES // bench.part, found))] if found else []
     yield "The installer", [page.filled(TEXT), page.table(head, rows), *told, page.filled(others.told(bench.runs))]

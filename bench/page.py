@@ -122,9 +122,9 @@ def networks_of(results, feed):
 
 def installer(results):
     """The installer, on each of its feeds; and the paragraph on the changes of the real feed, if it was there."""
-    rows = [[row[head] for head in ("feed", "batches", "operations", "kept s", "follow s", "at once s")] for row in results.rows(TITLES[3])]
+    rows = [[row[head] for head in ("feed", "batches", "operations", "largest batch", "kept s", "follow s", "at once s")] for row in results.rows(TITLES[3])]
     changed = re.search(r"^If all networks.*?\n(?=\n)", results.parts.get(TITLES[3], ""), re.M | re.S)
-    head = ["feed", "batches", "operations", "CPU s", "`follow` of the same log", "one batch: CPU s"]
+    head = ["feed", "batches", "operations", "largest batch", "CPU s", "`follow` of the same log", "one batch: CPU s"]
     yield "installer", table(head, rows) + (f"\n{changed[0]}" if changed else "")
 
 
