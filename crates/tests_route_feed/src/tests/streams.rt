@@ -215,7 +215,7 @@ const INSTALLED: [(&str, &str); 14] = [
     // Both changes of a reply are one batch.
     (
         "sync\nset 10.0.0.0/8 1\nset 192.0.2.0/24 2\nok\n",
-        "ok\ninstall 10.0.0.0/8 1\ninstall 192.0.2.0/24 2\nok\n",
+        "ok\ninstall 192.0.2.0/24 2\ninstall 10.0.0.0/8 1\nok\n",
     ),
     // Changes are dropped if their closing line is not `ok`.
     ("sync\nset 10.0.0.0/8 1\nbad\nok\n", "ok\n"),
