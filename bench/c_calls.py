@@ -9,12 +9,18 @@ import measure
 import page
 
 SIDES = {"routes": "C library", "crate": "the crate's map", "rib": "`rte_rib`", "fib": "`rte_fib`"}
-CHANGES = {"add": "add", "del": "del", "index_open": "make the index"}
+CHANGES = {"add": "add", "del": "del", "index_open": "make the index", "index_bytes": "index: bytes"}
 LOOK_UPS = {"match": "longest match", "match_many": "longest match, 64", "index": "index", "index_many": "index, 64"}
 # The ways that the index is compared with, and the calls that are compared.
 WAYS = (("routes", "match", "index", "over the table"), ("crate", "match", "index", "over the crate's map"),
         ("rib", "match", "index", "over `rte_rib`"), ("fib", "index", "index", "over `rte_fib`"),
         ("fib", "index_many", "index_many", "64, over `rte_fib`"))
+
+SPACES = {"v4": "0.0.0.0/0", "v6": "2000::/3"}
+# Other tables: a name, the block that contains all networks, their length, and their number.
+SPREAD = (("/24", "0.0.0.0/0", 24, 1_000_000), ("/25", "0.0.0.0/0", 25, 1_000_000), ("/32", "0.0.0.0/0", 32, 1_000_000),
+          ("/32 in 10.0.0.0/8", "10.0.0.0/8", 32, 1_000_000), ("/48 in 2000::/3", "2000::/3", 48, 100_000),
+          ("/64 in fd00::/8", "fd00::/8", 64, 100_000), ("/64 in 2001:db8::/32", "2001:db8::/32", 64, 100_000))
 
 TEXT = """The calls of the C library (docs/C.md) on the real feed, by `c/bench.c`. Each network of a family is added, in the feed's order.
 {asked} addresses of each mix are looked up, one in a call or 64. Then each network is removed, in another order. Figures are nanoseconds
@@ -22,19 +28,28 @@ of CPU time for one network or address. The crate's map has one number a network
 routes, and its `add` and `del` return the hop before and after. `rte_rib` and `rte_fib` are DPDK's{version}, for IPv6 `rte_rib6` and
 `rte_fib6`, without huge pages. The fib is DIR24_8, for IPv6 TRIE, with four bytes a hop. Like an index it finds hops alone; unlike an
 index it takes changes. All sides stored as many networks and found the same hop for each address, the crate's map the same network. A
-side without a call has `-`.{missing}"""
+side without a call has `-`. The bytes of an index for a network are those of its allocations, by glibc's account.{missing}"""
 
 RATIOS = """How many times as fast the index is as the other ways, for one address in a call; in the last column for 64. Below 1 it is
 slower."""
+
+OTHERS = """Nanoseconds for one address by the same calls, in tables of other kinds. Most have networks of one length, drawn evenly from a
+block. The last is the IPv4 feed with a network more inside each fifth of its networks, one to eight bits longer. Addresses are drawn
+from the networks, or anywhere from the block."""
 
 MADE = """Tables of one family each give these indexes in {made:.0f} ms together, {ratio:.3f} of the {lead:.2f} s in which `routes lead` loads
 the feed beside them, its output to a file."""
 
 
-def networks_of(feed, family, folder):
-    """The networks of a family, and two files of them: with their hops, and without."""
+def adds_of(feed, family):
+    """The adds of a family."""
     with open(feed, encoding="ascii") as file:
-        lines = [line[4:] for line in file if line.startswith("add ") and (":" in line) == (family == "v6")]
+        return [line for line in file if line.startswith("add ") and (":" in line) == (family == "v6")]
+
+
+def networks_of(adds, family, folder):
+    """The networks, and two files of them: with their hops, and without."""
+    lines = [line.removeprefix("add ") for line in adds]
     networks = [line.split()[0] for line in lines]
     routes, alone = folder / f"routes-{family}", folder / f"stored-{family}"
     routes.write_text("".join(lines))
@@ -42,10 +57,10 @@ def networks_of(feed, family, folder):
     return networks, routes, alone
 
 
-def timed(bench, program, sides, feed, family):
+def timed(bench, program, sides, adds, family, space):
     """The number of networks of the family, and the least times."""
-    networks, routes, alone = networks_of(feed, family, bench.folder)
-    asked = calls.asked(bench.folder, family, networks, bench.asked)
+    networks, routes, alone = networks_of(adds, family, bench.folder)
+    asked = calls.asked(bench.folder, family, networks, bench.asked, space)
     found = {}
     for side in sides:
         found[side] = lambda side=side: calls.of_lines(measure.run([*bench.pin, program, side, family, routes, *asked]))
@@ -89,6 +104,25 @@ def ratios(parts):
             yield [f"IP{family}, {mix}", *cells]
 
 
+def other_tables(bench, feed):
+    """The names, families, adds and blocks of the other tables."""
+    for name, inside, length, count in SPREAD:
+        count //= bench.part
+        yield f"{count:,} {name}", "v6" if ":" in inside else "v4", feeds.spread(inside, length, count, "1"), inside
+    yield "IPv4 feed, and a fifth inside", "v4", feeds.deeper(feed, "v4", "1"), SPACES["v4"]
+
+
+def others(bench, program, sides, feed):
+    """Two rows for each other table: by network, and anywhere. Each has the bytes and the making of the index for a network."""
+    for name, family, adds, space in other_tables(bench, feed):
+        _, least = timed(bench, program, sides, adds, family, space)
+        for mix in ("even", "anywhere"):
+            ways = (("routes", "index"), ("routes", "index_many"), ("routes", "match"), ("crate", "match"), ("fib", "index"), ("fib", "index_many"))
+            cells = [calls.nanoseconds(least.get((side, way, mix))) for side, way in ways]
+            cells += [calls.nanoseconds(least.get(("routes", call, None))) for call in ("index_bytes", "index_open")]
+            yield [name, "of a network" if mix == "even" else mix, *cells]
+
+
 def version():
     """The version of DPDK, if it is installed."""
     told = subprocess.run(["pkg-config", "--modversion", "libdpdk"], capture_output=True, text=True) if shutil.which("pkg-config") else None
@@ -101,8 +135,8 @@ def measured(bench):
     if not feed or not program:
         print("bench: the calls from C are left out, which need the real feed and a C compiler", file=sys.stderr)
         return
-    with measure.Others() as others:
-        parts = {family: timed(bench, program, sides, feed, family) for family in ("v4", "v6")}
+    with measure.Others() as load:
+        parts = {family: timed(bench, program, sides, adds_of(feed, family), family, SPACES[family]) for family in SPACES}
         lead = led(bench, feed)
     seen = {key for _, least in parts.values() for key in least}
     text = TEXT.format(asked=f"{bench.asked:,}", version=version(), missing=calls.missing(SIDES, seen))
@@ -113,5 +147,13 @@ def measured(bench):
         page.table(["addresses", "look-up", *SIDES.values()], look_ups(parts)),
         page.filled(RATIOS),
         page.table(["addresses", *(title for *_, title in WAYS)], ratios(parts)),
-        page.filled(others.told(bench.runs)),
+        page.filled(load.told(bench.runs)),
+    ]
+    with measure.Others() as load:
+        rows = [*others(bench, program, [side for side in sides if side != "rib"], feed)]
+    head = ["networks", "addresses", "index", "index, 64", "longest match", "the crate's map", "`rte_fib`", "`rte_fib`, 64"]
+    yield "Lookups in other tables", [
+        page.filled(OTHERS),
+        page.table([*head, "index: bytes a network", "index: ns a network"], rows),
+        page.filled(load.told(bench.runs)),
     ]

@@ -76,11 +76,12 @@ def timed(title, runs, sides):
     return least
 
 
-def asked(folder, family, networks, count):
-    """Files of addresses, one for each mix."""
-    paths = [folder / f"asked-{family}-{mix}" for mix in feeds.MIXES]
-    for path, mix in zip(paths, feeds.MIXES):
-        path.write_text("".join(f"{address}\n" for address in feeds.addresses(networks, mix, count)))
+def asked(folder, family, networks, count, space=None):
+    """Files of addresses, one for each mix; that of `anywhere` only if the space is given."""
+    mixes = feeds.MIXES if space else feeds.MIXES[:2]
+    paths = [folder / f"asked-{family}-{mix}" for mix in mixes]
+    for path, mix in zip(paths, mixes):
+        path.write_text("".join(f"{address}\n" for address in feeds.addresses(networks, mix, count, space)))
     return paths
 
 

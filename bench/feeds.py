@@ -3,12 +3,16 @@
 
 usage: feeds.py load|churn|walks v4|v6 COUNT [SEED]
        feeds.py over FEED COUNT [SEED]
+       feeds.py spread NET LENGTH COUNT [SEED]
+       feeds.py deeper FEED v4|v6 [SEED]
 
     load    COUNT adds of distinct networks, then flat
     churn   COUNT adds, then COUNT lines: adds of new networks, adds of routes to stored ones, dels, gets; then flat
     walks   COUNT adds, then COUNT / 10 lines: list, cover, from, after and count; then flat
     over    COUNT changes of the networks that FEED adds, each with one hop: some are withdrawn, some are announced again, with any hop
             of FEED, and some get another hop, by an `add` and a `del`
+    spread  COUNT adds of distinct networks of one length, drawn evenly from those inside NET
+    deeper  the adds of FEED of one family, and for each fifth network one of a network inside it that is one to eight bits longer
 
 The lengths are distributed as in a table of the public internet. Most networks are /24 (IPv4) or /48 (IPv6) and inside allocations, some
 of which are announced themselves. There are few hops, and some are far more frequent than others. A route that is added to a
@@ -28,7 +32,7 @@ WIDTH = {"v4": 32, "v6": 128}
 HOPS = 24
 MOST = 8
 PREFERENCES = ("50", "100", "200")
-MIXES = ("even", "Zipf")
+MIXES = ("even", "Zipf", "anywhere")
 
 
 class Networks:
@@ -81,7 +85,7 @@ class Feed:
         self.lines.append(" ".join((word, self.networks.text(network), *more)) + "\n")
 
     def hop(self):
-        return "drop" if self.draw.random() < 0.02 else str(1 + int(HOPS * self.draw.random() ** 3))
+        return "drop" if self.draw.random() < 0.02 else hop(self.draw)
 
     def any(self):
         return self.draw.choice(self.held)
@@ -142,6 +146,48 @@ class Feed:
             self.say("from" if kind == 2 else "after", network, "20")
 
 
+def hop(draw):
+    """A hop; some are far more frequent than others."""
+    return str(1 + int(HOPS * draw.random() ** 3))
+
+
+def numbers(text):
+    """The family of a network, its first address as a number, and its length."""
+    address, length = text.split("/")
+    packed = socket.inet_pton(socket.AF_INET6 if ":" in address else socket.AF_INET, address)
+    return "v6" if ":" in address else "v4", int.from_bytes(packed, "big"), int(length)
+
+
+def text_of(family, first, length):
+    """The text of a network."""
+    packed = first.to_bytes(WIDTH[family] // 8, "big")
+    return f"{socket.inet_ntop(socket.AF_INET6 if family == 'v6' else socket.AF_INET, packed)}/{length}"
+
+
+def spread(inside, length, count, seed):
+    """Adds of networks of one length."""
+    draw = random.Random(f"spread {inside} {length} {count} {seed}")
+    family, first, short = numbers(inside)
+    return [f"add {text_of(family, first | place << WIDTH[family] - length, length)} {hop(draw)}\n"
+            for place in draw.sample(range(1 << length - short), count)]
+
+
+def deeper(path, family, seed):
+    """The adds of a feed, with further networks inside its own."""
+    draw = random.Random(f"deeper {family} {seed}")
+    with open(path, encoding="ascii") as file:
+        lines = [line for line in file if line.startswith("add ") and (":" in line) == (family == "v6")]
+    known, more = {line.split()[1] for line in lines}, []
+    for line in lines[::5]:
+        _, first, length = numbers(line.split()[1])
+        longer = min(length + draw.randint(1, 8), WIDTH[family])
+        net = text_of(family, first | draw.getrandbits(longer - length) << WIDTH[family] - longer if longer > length else first, longer)
+        if net not in known:
+            known.add(net)
+            more.append(f"add {net} {hop(draw)}\n")
+    return lines + more
+
+
 def over(path, count, seed):
     """The changes of the networks of a feed."""
     draw = random.Random(f"over {count} {seed}")
@@ -163,22 +209,24 @@ def over(path, count, seed):
     return lines[:count]
 
 
-def addresses(networks, mix, count):
+def addresses(networks, mix, count, space=None):
     """Addresses to look up, each drawn uniformly from a network. For `even`, the network is drawn uniformly too. For `Zipf`, it is drawn by
-    its rank in a random order: the first network r times as often as the network of rank r."""
+    its rank in a random order: the first network r times as often as the network of rank r. For `anywhere`, it is always `space`."""
     draw = random.Random(f"{mix} {len(networks)}")
-    networks = draw.sample(networks, len(networks))
+    networks = [space] if mix == "anywhere" else draw.sample(networks, len(networks))
     for _ in range(count):
         place = draw.random() * len(networks) if mix == "even" else math.exp(draw.random() * math.log(len(networks) + 1)) - 1
-        text, length = networks[min(int(place), len(networks) - 1)].split("/")
-        family, width = (socket.AF_INET6, 128) if ":" in text else (socket.AF_INET, 32)
-        number = int.from_bytes(socket.inet_pton(family, text), "big") | draw.getrandbits(128) & (1 << width - int(length)) - 1
-        yield f"{socket.inet_ntop(family, number.to_bytes(width // 8, 'big'))}/{width}"
+        family, first, length = numbers(networks[min(int(place), len(networks) - 1)])
+        yield text_of(family, first | draw.getrandbits(128) & (1 << WIDTH[family] - length) - 1, WIDTH[family])
 
 
 def main():
     if len(sys.argv) in (4, 5) and sys.argv[1] == "over":
         return sys.stdout.writelines(over(sys.argv[2], int(sys.argv[3]), sys.argv[4] if len(sys.argv) == 5 else "1"))
+    if len(sys.argv) in (5, 6) and sys.argv[1] == "spread":
+        return sys.stdout.writelines(spread(sys.argv[2], int(sys.argv[3]), int(sys.argv[4]), sys.argv[5] if len(sys.argv) == 6 else "1"))
+    if len(sys.argv) in (4, 5) and sys.argv[1] == "deeper":
+        return sys.stdout.writelines(deeper(sys.argv[2], sys.argv[3], sys.argv[4] if len(sys.argv) == 5 else "1"))
     if len(sys.argv) not in (4, 5) or sys.argv[1] not in ("load", "churn", "walks") or sys.argv[2] not in WIDTH:
         sys.exit(__doc__)
     kind, family, count = sys.argv[1], sys.argv[2], int(sys.argv[3])

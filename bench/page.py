@@ -12,7 +12,7 @@ from pathlib import Path
 import plot
 
 ROOT = Path(__file__).resolve().parent.parent
-TITLES = ("Times and memory", "Least tables", "Beside a Rust program", "The installer", "Map calls", "From C")
+TITLES = ("Times and memory", "Least tables", "Beside a Rust program", "The installer", "Map calls", "From C", "Lookups in other tables")
 REAL = "real, both families"
 
 HEAD = """# Results of the benchmarks
@@ -27,7 +27,8 @@ differ from machine to machine; ratios less.
 The synthetic feeds (`bench/feeds.py`) are the same for everyone. `load` adds the networks. `churn` then makes as many adds, dels and gets.
 `walks` then makes a tenth as many `list`, `cover`, `from`, `after` and `count`. The real feed is every announced network with its origin,
 from Debian's package `libloc-database` (`bench/real_feed`). Addresses for lookups are drawn evenly from a network. For `even` the network
-is drawn evenly too; for `Zipf` by its place in a random order, the first r times as often as the one at place r.
+is drawn evenly too; for `Zipf` by its place in a random order, the first r times as often as the one at place r. For `anywhere` each is
+drawn evenly from a block that contains all networks: all of IPv4, 2000::/3 for the IPv6 networks of the feed, or the block that is named.
 """
 
 
@@ -144,6 +145,13 @@ def lookups(results):
     yield "docs/pictures/lookups.svg", plot.bars("Nanoseconds for a lookup on a full internet table", bars)
 
 
+def other_tables(results):
+    """Lookups from C in tables of other kinds."""
+    rows = results.rows(TITLES[6])
+    if rows:
+        yield "other tables", table([*rows[0]], [[*row.values()] for row in rows])
+
+
 def changes(results):
     """Changes from C."""
     yield "changes", table(["networks", "call", "C library", "Rust crate's map", "`rte_rib`", "`rte_fib`"],
@@ -185,7 +193,7 @@ def followed(results):
     """The files that follow from the results, and their content."""
     page = ROOT / "docs/PERFORMANCE.md"
     made, text = {}, None
-    for name, content in (pair for of in (programs, growth, least, installer, lookups, changes, maps) for pair in of(results)):
+    for name, content in (pair for of in (programs, growth, least, installer, lookups, other_tables, changes, maps) for pair in of(results)):
         if name.endswith(".svg"):
             made[ROOT / name] = content
         else:

@@ -3,16 +3,18 @@
  *
  * usage: bench routes|rib|fib v4|v6 NETWORKS ADDRESSES ..
  *
- * NETWORKS has lines `NET HOP`, each network once. ADDRESSES has lines `ADDRESS/LEN`, each address in one of the networks. Each call is
+ * NETWORKS has lines `NET HOP`, each network once. ADDRESSES has lines `ADDRESS/LEN`. Each call is
  * made for each line of its file; the dels are in another order than the adds. A line `CALL FILE NANOSECONDS RESULT` gives the CPU time of
  * one call. FILE counts the files of addresses from 1, and is 0 for changes. RESULT is a checksum of all hops that the lookups returned,
- * or the number of networks stored after the changes. At the end a line `matched FILE 0 SUM` gives the sum, over the addresses, of
- * the matched network's line number, from 0, and its length. */
+ * or the number of networks stored after the changes. Lines `table_bytes 0 BYTES 0` and `index_bytes 0 BYTES 0` give the memory that the
+ * library allocated for a network, by glibc's account. At the end a line `matched FILE 0 SUM` gives the sum, over the addresses that a
+ * network contains, of the longest such network's line number, from 0, and its length. */
 #ifndef _GNU_SOURCE
 #define _GNU_SOURCE
 #endif
 #include "routes.h"
 #include <arpa/inet.h>
+#include <malloc.h>
 #include <stdio.h>
 #include <stdlib.h>
 #include <string.h>
@@ -136,10 +138,16 @@ static void changed(const char *call, change *made, const struct lines *lines, s
     told(call, 0, spent, lines->count, stored());
 }
 
-/* A checksum of all hops in their order. */
+/* A fib's answer for an address that no network contains; a hop of a fib has fewer bits. */
+#define NO_HOP 0x7fffffff
+
+/* A checksum of all hops in their order. Each side has its own number for no network, which counts as no hop here. */
 static uint64_t digest(const struct asked *asked) {
     uint64_t all = 14695981039346656037u;
-    for (size_t i = 0; i < asked->count; i++) all = (all ^ asked->hops[i]) * 1099511628211u;
+    for (size_t i = 0; i < asked->count; i++) {
+        uint64_t hop = asked->hops[i];
+        all = (all ^ (hop == ROUTES_NO_MATCH || hop == NO_HOP ? ROUTES_DROP : hop)) * 1099511628211u;
+    }
     return all;
 }
 
@@ -221,6 +229,12 @@ static void hop6_many(struct asked *a) {
     for (size_t i = 0; i < a->count; i += MANY) routes_index_hop6_many(&indexed, a->v6 + i, part(a, i), a->hops + i, part(a, i));
 }
 
+/* The bytes that are allocated. */
+static double allocated(void) {
+    struct mallinfo2 info = mallinfo2();
+    return (double)info.uordblks + (double)info.hblkhd;
+}
+
 /* A table whose hops are line numbers shows which network is matched. */
 static void matched(const struct lines *lines, const struct asked *asked, int file) {
     uint64_t sum = 0;
@@ -240,15 +254,19 @@ static void matched(const struct lines *lines, const struct asked *asked, int fi
 
 static void routes(const struct lines *lines, struct asked *asked, int files) {
     struct lines other = shuffled(lines);
+    double before = allocated();
     held(routes_open(&table) == ROUTES_OK, "open");
     changed("add", is_v6 ? add6 : add4, lines, stored);
+    told("table_bytes", 0, allocated() - before, lines->count, 0);
     for (int i = 0; i < files; i++) {
         looked_up("match", i + 1, is_v6 ? get6 : get4, asked + i);
         looked_up("match_many", i + 1, is_v6 ? get6_many : get4_many, asked + i);
     }
+    before = allocated();
     double start = now();
     held(routes_index_open(&indexed, &table) == ROUTES_OK, "index");
     told("index_open", 0, now() - start, lines->count, stored());
+    told("index_bytes", 0, allocated() - before, lines->count, 0);
     for (int i = 0; i < files; i++) {
         looked_up("index", i + 1, is_v6 ? hop6 : hop4, asked + i);
         looked_up("index_many", i + 1, is_v6 ? hop6_many : hop4_many, asked + i);
@@ -262,8 +280,6 @@ static void routes(const struct lines *lines, struct asked *asked, int files) {
 
 #ifdef DPDK
 /* DPDK's tables, in memory without huge pages. */
-
-#define NO_HOP 0x7fffffff
 
 static struct rte_rib *rib;
 static struct rte_rib6 *rib6;
@@ -364,10 +380,17 @@ static void by_rib(const struct lines *lines, struct asked *asked, int files) {
     changed("del", is_v6 ? rib6_del : rib_del, &other, kept_now);
 }
 
+/* How many groups of 256 addresses DIR24_8 may need: at most one for each network below a /24. */
+static uint32_t groups(const struct lines *lines) {
+    uint32_t count = 1 << 16;
+    for (size_t i = 0; i < lines->count; i++) count += lines->at[i].len > 24;
+    return count;
+}
+
 static void by_fib(const struct lines *lines, struct asked *asked, int files) {
     struct lines other = shuffled(lines);
     struct rte_fib_conf conf = {.type = RTE_FIB_DIR24_8, .default_nh = NO_HOP, .max_routes = 2 * (int)lines->count,
-                                .dir24_8 = {.nh_sz = RTE_FIB_DIR24_8_4B, .num_tbl8 = 1 << 16}};
+                                .dir24_8 = {.nh_sz = RTE_FIB_DIR24_8_4B, .num_tbl8 = groups(lines)}};
     struct rte_fib6_conf conf6 = {.type = RTE_FIB6_TRIE, .default_nh = NO_HOP, .max_routes = 2 * (int)lines->count,
                                   .trie = {.nh_sz = RTE_FIB6_TRIE_4B, .num_tbl8 = (1 << 19) + 2 * lines->count}};
     prepared();
