@@ -2,7 +2,7 @@
 use Rattle.std.proofs.Common.{◌≡◌, ℕ, ◌+◌, List, [], ◌∷◌, Bool, length, Option, Some, None, refl, sym, arith, ap}
 use Rattle.nearest_table.specs.Changed.{MakeNearest}
 use Rattle.nearest_table.specs.Edits.{AreEdits, blocks, installed_in, removed_in}
-use Rattle.nearest_table.specs.Nearest.{IsFewest, distance, surplus}
+use Rattle.least_table.specs.Nearest.{IsFewest, distance, surplus}
 use Rattle.nearest_table.specs.Told.{told_hop}
 
 counted : (es : List (List Bool × Option (Option ℕ))) → length es ≡ length (installed_in es) + length (removed_in es)

@@ -3,7 +3,7 @@ ghost use Rattle.std.specs.Prelude.{◌≡◌, ◌≤◌, IfOk, None, length};
 ghost use Rattle.least_table.specs.InnerOrders.{IsInOrder};
 ghost use Rattle.least_table.specs.Tables.{IsTable};
 ghost use Rattle.nearest_table.specs.Changed.{AreInside};
-ghost use Rattle.nearest_table.specs.Nearest.{IsFewest};
+ghost use Rattle.least_table.specs.Nearest.{IsFewest};
 ghost use Rattle.nearest_table.specs.Told.{told_hop};
 
 use nearest_table::nearest;

@@ -1,17 +1,29 @@
 -- Plans that skip chains of levels.
-use Rattle.std.proofs.Common.{◌≡◌, ℕ, suc, ◌+◌, ◌<◌, inl, inr, Bool, true, false, cond, not, ◌&&◌, ◌||◌, List, [], ◌∷◌, ◌++◌, length, Option, None, refl, sym, ap, ◌∙◌, subst, arith, append-nil, add-zero, zero-add, ⊎_elim}
+use Rattle.std.proofs.Common.{◌≡◌, ℕ, suc, ◌+◌, ◌<◌, inl, inr, Bool, true, false, cond, not, ◌&&◌, ◌||◌, List, [], ◌∷◌, ◌++◌, length, replicate, Option, Some, None, refl, sym, ap, ◌∙◌, subst, arith, append-nil, add-zero, zero-add, ⊎_elim}
 use Rattle.std.proofs.Math.Bool.{or-false, and_comm, and-true, or_comm}
+use Rattle.std.proofs.Math.ListN.{length-replicate}
 use Rattle.std.proofs.lemmas.Bool.{cond_both, cases_Bool, false_from_ne_true, true_from_ne_false}
-use Rattle.std.proofs.lemmas.List.{length-map, length-append}
+use Rattle.std.proofs.lemmas.List.{length-map}
 use Rattle.least_table.proofs.Stores.{within-whole, within_within}
 use Rattle.ipnet_blocks.specs.BitStrings.{begins}
-use Rattle.least_table.specs.Tables.{Absent, Gives, half_of}
-use Rattle.least_table.specs.HopSets.{same_hop, holds, meets, AreMerged, AreBest, fee, first_of}
-use Rattle.least_table.specs.Trees.{inside, within, Tree, Leaf, Fork, Skip, best, OneOutside, inner_of, CanSkip, IsPlan, routes_of, chain_hops, chain_fee}
+use Rattle.least_table.specs.BestHops.{Of, AreMerged, AreBest}
+use Rattle.least_table.specs.HopSets.{same_hop, holds, meets, fee}
 use Rattle.least_table.specs.Laws.{ChainLaw, TreesLaw}
-use Rattle.least_table.proofs.Split.{joined, Absent-map}
-use Rattle.least_table.proofs.Halves.{Gives-joined, Gives-own}
-use Rattle.least_table.proofs.Sets.{same_hop-refl, same_hop-true, one_hop, meets-true, meets-false, Best-leaf, Best-fork, fees, first_of-holds, Stores, Stores-leaf, Stores-joined, Stores-fork}
+use Rattle.least_table.specs.Tables.{Gives, half_of}
+use Rattle.least_table.specs.Trees.{inside, within, Tree, Leaf, Fork, Skip, best, OneOutside, inner_of, CanSkip, IsPlan, routes_of, chain_hops, chain_fee}
+use Rattle.least_table.proofs.Halves.{Gives-whole}
+use Rattle.least_table.proofs.Makes.{Makes, Best-stay, distance-empty, empty_law, fork_made, made_nearest, stay_made}
+use Rattle.least_table.proofs.Merges.{Best-fork}
+use Rattle.least_table.proofs.Owns.{Gives-with}
+use Rattle.least_table.proofs.Sets.{same_hop-refl, same_hop-true, one_holds, meets-true, meets-false}
+use Rattle.least_table.proofs.Split.{joined, own-within}
+
+-- a block whose addresses have one hop
+one_hop : (w : ℕ) (h : List Bool → Option ℕ) (k : Option ℕ) → ((x : List Bool) → length x ≡ w → h x ≡ k) → Gives w h k []
+one_hop w h k same = record { table = tt; same = λ x e. sym (same x e) }
+
+Best-leaf : (w : ℕ) (h : List Bool → Option ℕ) (k : Option ℕ) → ((x : List Bool) → length x ≡ w → h x ≡ k) → AreBest w h [] (Of (k ∷ [])) 0
+Best-leaf w h k same = Best-stay w h [] tt k same (replicate w false) (length-replicate w false) refl
 
 -- ---- one level: a half with one hop beside any half
 
@@ -23,16 +35,12 @@ and_one false false f = refl
 meets_one : (k : Option ℕ) (hops : List (Option ℕ)) → meets (k ∷ []) hops ≡ holds hops k
 meets_one k hops = or-false (holds hops k)
 
-pub merged_left : (k : Option ℕ) (hops : List (Option ℕ)) → AreMerged (k ∷ []) hops (cond (holds hops k) (k ∷ []) (k ∷ hops))
+pub merged_left : (k : Option ℕ) (hops : List (Option ℕ)) → AreMerged (Of (k ∷ [])) (Of hops) (Of (cond (holds hops k) (k ∷ []) (k ∷ hops)))
 merged_left k hops j = go (holds hops k) refl
   where
     go : (c : Bool) → holds hops k ≡ c → holds (cond c (k ∷ []) (k ∷ hops)) j ≡ cond (meets (k ∷ []) hops) (holds (k ∷ []) j && holds hops j) (holds (k ∷ []) j || holds hops j)
     go true e = rw (meets_one k hops, e) (and_one (holds hops j) (same_hop j k) (λ f. ap (holds hops) (same_hop-true j k f) ∙ e))
     go false e = rw (meets_one k hops, e) (ap (λ u. u || holds hops j) (sym (or-false (same_hop j k))))
-
--- the one hop is in the other list
-pub one_merged : (k : Option ℕ) (hops : List (Option ℕ)) → holds hops k ≡ true → AreMerged (k ∷ []) hops (k ∷ [])
-one_merged k hops e = subst (λ c. AreMerged (k ∷ []) hops (cond c (k ∷ []) (k ∷ hops))) e (merged_left k hops)
 
 -- whether two lists meet does not depend on their order
 meets_swap : (as' bs : List (Option ℕ)) → meets as' bs ≡ meets bs as'
@@ -41,20 +49,20 @@ meets_swap as' bs = ⊎_elim
     (λ e. e ∙ sym (false_from_ne_true (meets bs as') (λ f. let j = meets-true bs as' f in meets-false as' bs e j.0 j.2 j.1)))
     (cases_Bool (meets as' bs))
 
-pub merged_swap : (as' bs cs : List (Option ℕ)) → AreMerged as' bs cs → AreMerged bs as' cs
+pub merged_swap : (as' bs cs : List (Option ℕ)) → AreMerged (Of as') (Of bs) (Of cs) → AreMerged (Of bs) (Of as') (Of cs)
 merged_swap as' bs cs m j = m j ∙ rw (meets_swap as' bs, and_comm (holds as' j) (holds bs j), or_comm (holds as' j) (holds bs j)) refl
 
 -- one level
-pub Best-level : (b : Bool) (w : ℕ) (h : List Bool → Option ℕ) (k : Option ℕ) (hops : List (Option ℕ)) (m : ℕ) → AreBest w (half_of b h) hops m
-    → ((x : List Bool) → length x ≡ w → half_of (not b) h x ≡ k) → AreBest (suc w) h (cond (holds hops k) (k ∷ []) (k ∷ hops)) (m + fee (holds hops k))
+Best-level : (b : Bool) (w : ℕ) (h : List Bool → Option ℕ) (k : Option ℕ) (hops : List (Option ℕ)) (m : ℕ) → AreBest w (half_of b h) [] (Of hops) m
+    → ((x : List Bool) → length x ≡ w → half_of (not b) h x ≡ k) → AreBest (suc w) h [] (Of (cond (holds hops k) (k ∷ []) (k ∷ hops))) (m + fee (holds hops k))
 Best-level true w h k hops m inner one =
     let c = cond (holds hops k) (k ∷ []) (k ∷ hops) in
-    let r : AreBest (suc w) h c (0 + m + fee (meets (k ∷ []) hops)) = Best-fork w h (k ∷ []) hops c 0 m (Best-leaf w (half_of false h) k one) inner (merged_left k hops) in
-    subst (λ n. AreBest (suc w) h c n) (ap (λ u. 0 + m + fee u) (meets_one k hops) ∙ ap (λ n. n + fee (holds hops k)) (zero-add m)) r
+    let r : AreBest (suc w) h [] (Of c) (0 + m + fee (meets (k ∷ []) hops)) = Best-fork w h [] tt refl (Of (k ∷ [])) (Of hops) (Of c) 0 m (Best-leaf w (half_of false h) k one) inner (merged_left k hops) in
+    subst (λ n. AreBest (suc w) h [] (Of c) n) (ap (λ u. 0 + m + fee u) (meets_one k hops) ∙ ap (λ n. n + fee (holds hops k)) (zero-add m)) r
 Best-level false w h k hops m inner one =
     let c = cond (holds hops k) (k ∷ []) (k ∷ hops) in
-    let r : AreBest (suc w) h c (m + 0 + fee (meets hops (k ∷ []))) = Best-fork w h hops (k ∷ []) c m 0 inner (Best-leaf w (half_of true h) k one) (merged_swap (k ∷ []) hops c (merged_left k hops)) in
-    subst (λ n. AreBest (suc w) h c n) (ap (λ u. m + 0 + fee u) (meets_swap hops (k ∷ []) ∙ meets_one k hops) ∙ ap (λ n. n + fee (holds hops k)) (add-zero m)) r
+    let r : AreBest (suc w) h [] (Of c) (m + 0 + fee (meets hops (k ∷ []))) = Best-fork w h [] tt refl (Of hops) (Of (k ∷ [])) (Of c) m 0 inner (Best-leaf w (half_of true h) k one) (merged_swap (k ∷ []) hops c (merged_left k hops)) in
+    subst (λ n. AreBest (suc w) h [] (Of c) n) (ap (λ u. m + 0 + fee u) (meets_swap hops (k ∷ []) ∙ meets_one k hops) ∙ ap (λ n. n + fee (holds hops k)) (add-zero m)) r
 
 -- ---- a chain of levels
 
@@ -82,17 +90,17 @@ chain_holds k hops c (d ∷ ds) = rw (same_hop-refl k) refl
 pub chain_law : ChainLaw
 chain_law [] v h k hops m inner one = rw (zero-add, add-zero) inner
 chain_law (b ∷ []) v h k hops m inner one =
-    let below : AreBest (length {A = Bool} [] + v) (half_of b h) hops m = rw (zero-add) inner in
-    subst (λ n. AreBest n h (chain_hops k hops (b ∷ [])) (m + fee (holds hops k))) (one_more 0 v) (Best-level b (0 + v) h k hops m below (other_half b [] v h k one))
+    let below : AreBest (length {A = Bool} [] + v) (half_of b h) [] (Of hops) m = rw (zero-add) inner in
+    subst (λ n. AreBest n h [] (Of (chain_hops k hops (b ∷ []))) (m + fee (holds hops k))) (one_more 0 v) (Best-level b (0 + v) h k hops m below (other_half b [] v h k one))
 chain_law (b ∷ c ∷ ds) v h k hops m inner one =
     let S = chain_hops k hops (c ∷ ds) in
     let n = m + fee (holds hops k) in
     let w = length (c ∷ ds) + v in
-    let below : AreBest w (half_of b h) S n = chain_law (c ∷ ds) v (half_of b h) k hops m inner (outside_half b (c ∷ ds) v h k one) in
+    let below : AreBest w (half_of b h) [] (Of S) n = chain_law (c ∷ ds) v (half_of b h) k hops m inner (outside_half b (c ∷ ds) v h k one) in
     let r = Best-level b w h k S n below (other_half b (c ∷ ds) v h k one) in
     let e : holds S k ≡ true = chain_holds k hops c ds in
-    subst (λ i. AreBest i h (k ∷ []) n) (one_more (length (c ∷ ds)) v)
-    (subst (λ i. AreBest (suc w) h (k ∷ []) i) (add-zero n) (subst (λ u. AreBest (suc w) h (cond u (k ∷ []) (k ∷ S)) (n + fee u)) e r))
+    subst (λ i. AreBest i h [] (Of (k ∷ [])) n) (one_more (length (c ∷ ds)) v)
+    (subst (λ i. AreBest (suc w) h [] (Of (k ∷ [])) i) (add-zero n) (subst (λ u. AreBest (suc w) h [] (Of (cond u (k ∷ []) (k ∷ S))) (n + fee u)) e r))
 
 -- where a chain can be skipped, k alone is best
 chain_one : (k : Option ℕ) (hops : List (Option ℕ)) (ds : List Bool) → CanSkip hops k ds → chain_hops k hops ds ≡ k ∷ []
@@ -105,74 +113,59 @@ chain_costs : (k : Option ℕ) (hops : List (Option ℕ)) (ds : List Bool) → C
 chain_costs k hops [] c = absurd (omega (arith, c.0))
 chain_costs k hops (b ∷ ds) c = refl
 
-pub Best-skip : (ds : List Bool) (v : ℕ) (h : List Bool → Option ℕ) (k : Option ℕ) (hops : List (Option ℕ)) (m : ℕ) → CanSkip hops k ds →
-    AreBest v (inner_of ds h) hops m → OneOutside (length ds + v) h ds k → AreBest (length ds + v) h (k ∷ []) (m + fee (holds hops k))
+Best-skip : (ds : List Bool) (v : ℕ) (h : List Bool → Option ℕ) (k : Option ℕ) (hops : List (Option ℕ)) (m : ℕ) → CanSkip hops k ds →
+    AreBest v (inner_of ds h) [] (Of hops) m → OneOutside (length ds + v) h ds k → AreBest (length ds + v) h [] (Of (k ∷ [])) (m + fee (holds hops k))
 Best-skip ds v h k hops m c inner one = rw (← chain_one k hops ds c, ← chain_costs k hops ds c) (chain_law ds v h k hops m inner one)
 
--- how many routes the tree stores under a best hop
-abbrev pub count : Tree → ℕ
+-- how many routes the tree has if its block inherits a best hop
+abbrev count : Tree → ℕ
 count (Leaf k) = 0
 count (Fork hops l r) = count l + count r + fee (meets (best l) (best r))
 count (Skip k ds t) = count t + fee (holds (best t) k)
 
-pub Best-tree : (w : ℕ) (h : List Bool → Option ℕ) (t : Tree) → IsPlan w h t → AreBest w h (best t) (count t)
+Best-tree : (w : ℕ) (h : List Bool → Option ℕ) (t : Tree) → IsPlan w h t → AreBest w h [] (Of (best t)) (count t)
 Best-tree w h (Leaf k) same = Best-leaf w h k same
 Best-tree w h (Fork hops l r) plan =
     let v = plan.0 in
-    rw (plan.1) (Best-fork v h (best l) (best r) hops (count l) (count r) (Best-tree v (half_of false h) l plan.3) (Best-tree v (half_of true h) r plan.4) plan.2)
+    rw (plan.1) (Best-fork v h [] tt refl (Of (best l)) (Of (best r)) (Of hops) (count l) (count r) (Best-tree v (half_of false h) l plan.3) (Best-tree v (half_of true h) r plan.4) plan.2)
 Best-tree w h (Skip k ds t) plan =
     let v = plan.0 in
     rw (plan.1) (Best-skip ds v h k (best t) (count t) plan.2 (Best-tree v (inner_of ds h) t plan.4) plan.3)
 
--- ---- what is stored
-
-length_within : (ds : List Bool) (t : List (List Bool × Option ℕ)) → length (within ds t) ≡ length t
-length_within ds t = length-map t (λ r. (ds ++ r.0, r.1))
+-- ---- its routes
 
 Gives-within : (ds : List Bool) (v : ℕ) (h : List Bool → Option ℕ) (k : Option ℕ) (t : List (List Bool × Option ℕ)) → Gives v (inner_of ds h) k t → OneOutside (length ds + v) h ds k → Gives (length ds + v) h k (within ds t)
 Gives-within [] v h k t g one = rw (zero-add, within-whole t) g
 Gives-within (true ∷ ds) v h k t g one =
     let n = length ds + v in
-    rw (← within_within (true ∷ []) ds t, ← one_more (length ds) v) (Gives-joined n h k [] (within ds t) (one_hop n (half_of false h) k (other_half true ds v h k one)) (Gives-within ds v (half_of true h) k t g (outside_half true ds v h k one)))
+    rw (← within_within (true ∷ []) ds t, ← one_more (length ds) v) (Gives-whole n h k None [] (within ds t) (one_hop n (half_of false h) k (other_half true ds v h k one)) (Gives-within ds v (half_of true h) k t g (outside_half true ds v h k one)))
 Gives-within (false ∷ ds) v h k t g one =
     let n = length ds + v in
     let u : joined (within ds t) [] ≡ within (false ∷ ds) t = append-nil (inside false (within ds t)) ∙ within_within (false ∷ []) ds t in
-    rw (← u, ← one_more (length ds) v) (Gives-joined n h k (within ds t) [] (Gives-within ds v (half_of false h) k t g (outside_half false ds v h k one)) (one_hop n (half_of true h) k (other_half false ds v h k one)))
+    rw (← u, ← one_more (length ds) v) (Gives-whole n h k None (within ds t) [] (Gives-within ds v (half_of false h) k t g (outside_half false ds v h k one)) (one_hop n (half_of true h) k (other_half false ds v h k one)))
 
-absent : (ds : List Bool) (t : List (List Bool × Option ℕ)) → 0 < length ds → Absent [] (within ds t)
-absent ds t l = Absent-map (λ r. (ds ++ r.0, r.1)) [] t (λ r e. absurd (omega (arith, length-append ds r.0, ap length e, l)))
-
-Stores-skip : (ds : List Bool) (v : ℕ) (h : List Bool → Option ℕ) (k s : Option ℕ) (t : List (List Bool × Option ℕ)) (m : ℕ) → 0 < length ds → OneOutside (length ds + v) h ds k → Stores v (inner_of ds h) k t m
-    → Stores (length ds + v) h s (cond (same_hop s k) (within ds t) (([], k) ∷ within ds t)) (m + fee (holds (k ∷ []) s))
-Stores-skip ds v h k s t m l one a = go (same_hop s k) refl
+skip_made : (ds : List Bool) (v : ℕ) (h : List Bool → Option ℕ) (k s : Option ℕ) (t : List (List Bool × Option ℕ)) (m : ℕ) → 0 < length ds → OneOutside (length ds + v) h ds k → Makes v (inner_of ds h) k [] t m
+    → Makes (length ds + v) h s [] (cond (same_hop s k) (within ds t) (([], k) ∷ within ds t)) (m + fee (same_hop s k))
+skip_made ds v h k s t m l one made = go (same_hop s k) refl
   where
     g : Gives (length ds + v) h k (within ds t)
-    g = Gives-within ds v h k t a.gives one
+    g = Gives-within ds v h k t made.gives one
 
-    go : (c : Bool) → same_hop s k ≡ c → Stores (length ds + v) h s (cond c (within ds t) (([], k) ∷ within ds t)) (m + fee (c || false))
-    go true e = record { gives = rw (same_hop-true s k e) g; long = omega (arith, length_within ds t, a.long) }
-    go false e = record { gives = Gives-own (length ds + v) h s k (within ds t) (absent ds t l) g; long = omega (arith, length_within ds t, a.long) }
+    long : length (within ds t) ≡ m
+    long = length-map t (λ r. (ds ++ r.0, r.1)) ∙ sym (distance-empty t) ∙ made.far
 
-pub Stores-tree : (w : ℕ) (h : List Bool → Option ℕ) (t : Tree) → IsPlan w h t → (s : Option ℕ) → Stores w h s (routes_of t s) (count t + fee (holds (best t) s))
-Stores-tree w h (Leaf k) same s = Stores-leaf w h k s same
-Stores-tree w h (Skip k ds t) plan s =
+    go : (c : Bool) → same_hop s k ≡ c → Makes (length ds + v) h s [] (cond c (within ds t) (([], k) ∷ within ds t)) (m + fee c)
+    go true e = record { gives = rw (same_hop-true s k e) g; far = distance-empty (within ds t) ∙ omega (arith, long) }
+    go false e = record { gives = Gives-with (length ds + v) h s (Some k) (within ds t) (own-within ds t l) g; far = distance-empty (([], k) ∷ within ds t) ∙ omega (arith, long) }
+
+makes : (w : ℕ) (h : List Bool → Option ℕ) (t : Tree) → IsPlan w h t → (s : Option ℕ) → Makes w h s [] (routes_of t s) (count t + fee (holds (best t) s))
+makes w h (Leaf k) same s = rw (one_holds k s) (stay_made w h [] tt k same (replicate w false) (length-replicate w false) refl s)
+makes w h (Skip k ds t) plan s =
     let v = plan.0 in
-    rw (plan.1) (Stores-skip ds v h k s (routes_of t k) (count t + fee (holds (best t) k)) plan.2.0 plan.3 (Stores-tree v (inner_of ds h) t plan.4 k))
-Stores-tree w h (Fork hops l r) plan s =
+    rw (plan.1, one_holds k s) (skip_made ds v h k s (routes_of t k) (count t + fee (holds (best t) k)) plan.2.0 plan.3 (makes v (inner_of ds h) t plan.4 k))
+makes w h (Fork hops l r) plan s =
     let v = plan.0 in
-    rw (plan.1) (fork v (λ k. Stores-tree v (half_of false h) l plan.3 k) (λ k. Stores-tree v (half_of true h) r plan.4 k) (Best-tree w h (Fork hops l r) plan).some)
-  where
-    fork : (v : ℕ) → ((k : Option ℕ) → Stores v (half_of false h) k (routes_of l k) (count l + fee (holds (best l) k))) → ((k : Option ℕ) → Stores v (half_of true h) k (routes_of r k) (count r + fee (holds (best r) k)))
-        → (k : Option ℕ) × (holds hops k ≡ true) → Stores (suc v) h s (routes_of (Fork hops l r) s) (count (Fork hops l r) + fee (holds hops s))
-    fork v below above some = Stores-fork v h s (first_of hops) _ _ _ _ (count (Fork hops l r)) (holds hops s) (λ e. both s e) (both (first_of hops) (first_of-holds hops some.0 some.1))
-      where
-        both : (k : Option ℕ) → holds hops k ≡ true → Stores (suc v) h k (joined (routes_of l k) (routes_of r k)) (count (Fork hops l r))
-        both k e = rw (← total) (Stores-joined v h k (routes_of l k) (routes_of r k) _ _ (below k) (above k))
-          where
-            total : count l + fee (holds (best l) k) + (count r + fee (holds (best r) k)) ≡ count (Fork hops l r)
-            total = omega (arith, fees (best l) (best r) hops plan.2 k e)
+    rw (plan.1) (fork_made v h [] tt refl (Of (best l)) (Of (best r)) (Of hops) (count l) (count r) plan.2 (Best-tree w h (Fork hops l r) plan).some (routes_of l) (routes_of r) (makes v (half_of false h) l plan.3) (makes v (half_of true h) r plan.4) s)
 
 pub trees_are_least : TreesLaw
-trees_are_least w h t plan =
-    let s = Stores-tree w h t plan None in
-    record { gives = s.gives; fewest = λ u g. omega (arith, s.long, ((Best-tree w h t plan).needs None).least u g) }
+trees_are_least w h t plan = (empty_law w h (routes_of t None)).1.1 (made_nearest w h None [] (routes_of t None) (Of (best t)) (count t) (Best-tree w h t plan) (makes w h t plan None))

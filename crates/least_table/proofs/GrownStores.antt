@@ -1,11 +1,10 @@
 -- What the steps of a plan store, as the routes of its tree.
 use Rattle.std.proofs.Common.{◌≡◌, ℕ, Bool, true, false, cond, List, [], ◌∷◌, ◌++◌, Option, refl, sym, ap, ap₂, ◌∙◌, append-nil}
-use Rattle.std.proofs.Math.Bool.{or-false}
 use Rattle.std.proofs.lemmas.Bool.{cond_both}
-use Rattle.least_table.specs.HopSets.{holds, same_hop}
+use Rattle.least_table.specs.HopSets.{same_hop}
 use Rattle.least_table.specs.Trees.{inside, within}
 use Rattle.least_table.specs.InnerSteps.{passed}
-use Rattle.least_table.proofs.Sets.{same_hop-true}
+use Rattle.least_table.proofs.Sets.{one_holds, same_hop-true}
 use Rattle.least_table.proofs.Stores.{within-halves, within_within}
 
 -- ---- the routes of a block and of those in it
@@ -24,8 +23,5 @@ skip_stored true b ds t k = sym (within_within b ds t)
 skip_stored false b ds t k = ap₂ (λ x y. (x, k) ∷ y) (sym (append-nil b)) (sym (within_within b ds t))
 
 -- a set of one hop
-pub one_holds : (k s : Option ℕ) → holds (k ∷ []) s ≡ same_hop s k
-one_holds k s = or-false (same_hop s k)
-
 pub one_passed : (k s : Option ℕ) → passed (k ∷ []) s ≡ k
 one_passed k s = ap (λ c. cond c s k) (one_holds k s) ∙ cond_both (same_hop s k) s k (λ u. u ≡ k) (same_hop-true s k) (λ e. refl)

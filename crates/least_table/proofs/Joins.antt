@@ -1,7 +1,8 @@
 -- Plans at the end of the steps: made wider, and joined.
 use Rattle.std.proofs.Common.{◌≡◌, ℕ, suc, ◌-◌, ◌<◌, Bool, true, false, List, [], ◌∷◌, ◌++◌, length, MatchOption, Option, None, Some, cond, inl, inr, sym, ap, ◌∙◌, subst, arith, append_assoc, append-nil, length-append}
 use Rattle.std.proofs.lemmas.Bool.{lt-ltb, ne_eqb}
-use Rattle.least_table.specs.HopSets.{same_hop, holds, AreMerged}
+use Rattle.least_table.specs.BestHops.{Of, AreMerged}
+use Rattle.least_table.specs.HopSets.{same_hop, holds}
 use Rattle.least_table.specs.InnerPacked.{AreWhole, Grows, IsKept, IsWider, best_at, step_of, steps_in}
 use Rattle.least_table.specs.InnerPlans.{Ends, IsHeld, OfHalf, OfHalves, Plan, Leaf, Pair, Fork, Half, Skip, steps_of, top}
 use Rattle.least_table.specs.InnerRising.{IsRising}
@@ -13,7 +14,7 @@ use Rattle.least_table.specs.declared.plan.Planned.TheVariants as planned
 use Rattle.least_table.specs.declared.plan.Steps.{Steps}
 use Rattle.least_table.proofs.Chains.{merged_left, merged_swap}
 use Rattle.least_table.proofs.Gathers.{best_last}
-use Rattle.least_table.proofs.GrownStores.{one_holds}
+use Rattle.least_table.proofs.Sets.{one_holds}
 use Rattle.least_table.proofs.Packed.{popped, kept_popped}
 use Rattle.least_table.proofs.Takes.{last_taken, left_of, same_ends}
 use Rattle.least_table.proofs.Tops.{below, read_top, top_last}
@@ -63,7 +64,7 @@ module _ (upper : Bool) (k : Option ℕ) (xs : List Step) (p : Plan) (old new : 
   pub single_ends : holds (step_best (top p)) k ≡ true → Grows old new (steps.Skip k (upper ∷ []) ∷ []) → (r : Plan) × OfHalf upper k p r × Ends xs r new
   single_ends e grows = (Skip k (upper ∷ []) p, single upper k p e, ends_grown xs (Skip k (upper ∷ []) p) old new ends.steps grows (tt, tt))
 
-  pub beside_ends : (hops : List (Option ℕ)) → AreMerged (k ∷ []) (step_best (top p)) hops → IsRising hops → Grows old new (steps.Half upper k hops ∷ []) → (r : Plan) × OfHalf upper k p r × Ends xs r new
+  pub beside_ends : (hops : List (Option ℕ)) → AreMerged (Of (k ∷ [])) (Of (step_best (top p))) (Of hops) → IsRising hops → Grows old new (steps.Half upper k hops ∷ []) → (r : Plan) × OfHalf upper k p r × Ends xs r new
   beside_ends hops merged rising grows = (Half upper k hops p, beside upper k p hops merged, ends_grown xs (Half upper k hops p) old new ends.steps grows rising)
 
   -- this half leads to a smaller block past the same hop
@@ -98,17 +99,17 @@ module _ (at : ℕ) (xs ys : List Step) (p q : Plan) (old : Steps) (held : IsHel
   pub low_best : best_at old at ≡ step_best (top p)
   low_best = let i : at ≡ suc at - 1 = omega arith in ap (best_at old) i ∙ read_top p xs ys (steps_of q) (steps_in old) held.0 ends.steps (suc at) held.1
 
-  pub fork_ends : (hops : List (Option ℕ)) (new : Steps) → AreMerged (best_at old at) (best_at old (length (steps_in old) - 1)) hops → IsRising hops → Grows old new (steps.Fork hops ∷ []) → (r : Plan) × OfHalves p q r × Ends xs r new
+  pub fork_ends : (hops : List (Option ℕ)) (new : Steps) → AreMerged (Of (best_at old at)) (Of (best_at old (length (steps_in old) - 1))) (Of hops) → IsRising hops → Grows old new (steps.Fork hops ∷ []) → (r : Plan) × OfHalves p q r × Ends xs r new
   fork_ends hops new merged rising grows = (
     Fork hops p q,
-    forked p q hops (subst (λ ks. AreMerged ks (step_best (top q)) hops) low_best (subst (λ ks. AreMerged (best_at old at) ks hops) (best_last ys q old ends) merged)),
+    forked p q hops (subst (λ ks. AreMerged (Of ks) (Of (step_best (top q))) (Of hops)) low_best (subst (λ ks. AreMerged (Of (best_at old at)) (Of ks) (Of hops)) (best_last ys q old ends) merged)),
     ends_grown xs (Fork hops p q) old new (ends.steps ∙ ap (λ t. t ++ steps_of q) held.0 ∙ append_assoc xs (steps_of p) (steps_of q)) grows rising,
   )
 
 -- ---- two hops
 
-pub two_merged : (a b : Option ℕ) → same_hop a b ≡ false → AreMerged (a ∷ []) (b ∷ []) (a ∷ b ∷ [])
-two_merged a b e = subst (λ c. AreMerged (a ∷ []) (b ∷ []) (cond c (a ∷ []) (a ∷ b ∷ []))) (one_holds b a ∙ e) (merged_left a (b ∷ []))
+pub two_merged : (a b : Option ℕ) → same_hop a b ≡ false → AreMerged (Of (a ∷ [])) (Of (b ∷ [])) (Of (a ∷ b ∷ []))
+two_merged a b e = subst (λ c. AreMerged (Of (a ∷ [])) (Of (b ∷ [])) (Of (cond c (a ∷ []) (a ∷ b ∷ [])))) (one_holds b a ∙ e) (merged_left a (b ∷ []))
 
 -- ---- the last step is a leaf
 
@@ -121,10 +122,10 @@ leaf_last k xs p old new e ends =
 apart : (a b : ℕ) → a < b → same_hop (Some a) (Some b) ≡ false
 apart a b l = ne_eqb a b (λ e. omega (arith, l, e))
 
-pub rising_merged : (a b : ℕ) → a < b → AreMerged (Some a ∷ []) (Some b ∷ []) (Some a ∷ Some b ∷ [])
+pub rising_merged : (a b : ℕ) → a < b → AreMerged (Of (Some a ∷ [])) (Of (Some b ∷ [])) (Of (Some a ∷ Some b ∷ []))
 rising_merged a b l = two_merged (Some a) (Some b) (apart a b l)
 
-pub falling_merged : (a b : ℕ) → b < a → AreMerged (Some a ∷ []) (Some b ∷ []) (Some b ∷ Some a ∷ [])
+pub falling_merged : (a b : ℕ) → b < a → AreMerged (Of (Some a ∷ [])) (Of (Some b ∷ [])) (Of (Some b ∷ Some a ∷ []))
 falling_merged a b l = merged_swap (Some b ∷ []) (Some a ∷ []) (Some b ∷ Some a ∷ []) (rising_merged b a l)
 
 pub rising_pair : (a b : ℕ) → a < b → IsRising (Some a ∷ Some b ∷ [])

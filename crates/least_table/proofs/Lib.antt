@@ -1,6 +1,10 @@
 pub mod Split
-pub mod Halves
 pub mod Sets
+pub mod Distances
+pub mod Halves
+pub mod Owns
+pub mod Merges
+pub mod Makes
 pub mod Stacks
 pub mod Chains
 pub mod Risings

@@ -1,5 +1,5 @@
 -- The routes of a plan are in order.
-use Rattle.std.proofs.Common.{◌≡◌, ℕ, ◌<◌, Bool, true, false, List, [], ◌∷◌, ◌++◌, length, All, AllPairs, Option, refl, ◌∙◌, arith, map}
+use Rattle.std.proofs.Common.{◌≡◌, ℕ, Bool, true, false, List, [], ◌∷◌, ◌++◌, All, AllPairs, Option, Some, None, refl, ◌∙◌, arith, map}
 use Rattle.std.specs.declared.cmp.Ordering.TheVariants.{Less}
 use Rattle.std.proofs.lemmas.List.Elements.{All-nil, All-cons}
 use Rattle.std.proofs.lemmas.List.Kept.{AllPairs-cons}
@@ -9,6 +9,9 @@ use Rattle.trie_core.proofs.Strings.{bits_cmp-under}
 use Rattle.least_table.specs.HopSets.{holds, same_hop, first_of}
 use Rattle.least_table.specs.Trees.{Tree, Leaf, Fork, Skip, inside, within, routes_of}
 use Rattle.least_table.specs.InnerPlans.{Fits}
+use Rattle.least_table.specs.Tables.{own}
+use Rattle.least_table.specs.Wholes.{with_own}
+use Rattle.least_table.proofs.Split.{joined, own-joined, own-within}
 use Rattle.least_table.specs.InnerOrders.{ComesBeforeAll, IsInOrder}
 
 -- routes of a block, as routes of the whole, keep their order
@@ -28,24 +31,30 @@ ComesBeforeAll-append : (x : List Bool) (t u : List (List Bool × Option ℕ)) �
 ComesBeforeAll-append x [] u h k = k
 ComesBeforeAll-append x (r ∷ t) u h k = (h.0, ComesBeforeAll-append x t u h.1 k)
 
-IsInOrder-halves : (l r : List (List Bool × Option ℕ)) → IsInOrder l → IsInOrder r → IsInOrder (inside false l ++ inside true r)
-IsInOrder-halves [] r h k = IsInOrder-within (true ∷ []) r k
-IsInOrder-halves (q ∷ l) r h k =
-    (ComesBeforeAll-append (false ∷ q.0) (inside false l) (inside true r) (ComesBeforeAll-within (false ∷ []) q.0 l h.0) (ComesBeforeAll-map (λ p. (true ∷ p.0, p.1)) (false ∷ q.0) r (λ p. refl)), IsInOrder-halves l r h.1 k)
+pub IsInOrder-joined : (l r : List (List Bool × Option ℕ)) → IsInOrder l → IsInOrder r → IsInOrder (joined l r)
+IsInOrder-joined [] r h k = IsInOrder-within (true ∷ []) r k
+IsInOrder-joined (q ∷ l) r h k =
+    (ComesBeforeAll-append (false ∷ q.0) (inside false l) (inside true r) (ComesBeforeAll-within (false ∷ []) q.0 l h.0) (ComesBeforeAll-map (λ p. (true ∷ p.0, p.1)) (false ∷ q.0) r (λ p. refl)), IsInOrder-joined l r h.1 k)
 
-whole : (ds : List Bool) → 0 < length ds → (t : List (List Bool × Option ℕ)) → ComesBeforeAll [] (within ds t)
-whole [] l t = absurd (omega (arith, l))
-whole (b ∷ ds) l t = ComesBeforeAll-map (λ r. (b ∷ ds ++ r.0, r.1)) [] t (λ r. refl)
+-- the route of the whole block comes before all others
+after_whole : (t : List (List Bool × Option ℕ)) → own t ≡ None → ComesBeforeAll [] t
+after_whole [] e = tt
+after_whole (([], k) ∷ t) e = cc
+after_whole ((b ∷ c, k) ∷ t) e = (refl, after_whole t e)
+
+pub IsInOrder-with : (o : Option (Option ℕ)) (t : List (List Bool × Option ℕ)) → own t ≡ None → IsInOrder t → IsInOrder (with_own o t)
+IsInOrder-with None t e h = h
+IsInOrder-with (Some k) t e h = (after_whole t e, h)
 
 pub IsInOrder-routes : (w : ℕ) (t : Tree) (s : Option ℕ) → Fits w t → IsInOrder (routes_of t s)
 IsInOrder-routes w (Leaf k) s g = cond_both (same_hop s k) [] (([], k) ∷ []) IsInOrder (λ e. tt) (λ e. (tt, tt))
 IsInOrder-routes w (Fork hops l r) s g =
-    let h : (k : Option ℕ) → IsInOrder (inside false (routes_of l k) ++ inside true (routes_of r k)) = λ k. IsInOrder-halves (routes_of l k) (routes_of r k) (IsInOrder-routes g.0 l k g.2) (IsInOrder-routes g.0 r k g.3) in
-    cond_both (holds hops s) (inside false (routes_of l s) ++ inside true (routes_of r s)) (([], first_of hops) ∷ inside false (routes_of l (first_of hops)) ++ inside true (routes_of r (first_of hops))) IsInOrder (λ e. h s)
-    (λ e. (ComesBeforeAll-append [] (inside false (routes_of l (first_of hops))) (inside true (routes_of r (first_of hops))) (ComesBeforeAll-map (λ p. (false ∷ p.0, p.1)) [] (routes_of l (first_of hops)) (λ p. refl)) (ComesBeforeAll-map (λ p. (true ∷ p.0, p.1)) [] (routes_of r (first_of hops)) (λ p. refl)), h (first_of hops)))
+    let both : (k : Option ℕ) → IsInOrder (joined (routes_of l k) (routes_of r k)) = λ k. IsInOrder-joined (routes_of l k) (routes_of r k) (IsInOrder-routes g.0 l k g.2) (IsInOrder-routes g.0 r k g.3) in
+    cond_both (holds hops s) (joined (routes_of l s) (routes_of r s)) (([], first_of hops) ∷ joined (routes_of l (first_of hops)) (routes_of r (first_of hops))) IsInOrder (λ e. both s)
+    (λ e. IsInOrder-with (Some (first_of hops)) (joined (routes_of l (first_of hops)) (routes_of r (first_of hops))) (own-joined (routes_of l (first_of hops)) (routes_of r (first_of hops))) (both (first_of hops)))
 IsInOrder-routes w (Skip k ds t) s g =
     let h = IsInOrder-within ds (routes_of t k) (IsInOrder-routes g.0 t k g.3) in
-    cond_both (same_hop s k) (within ds (routes_of t k)) (([], k) ∷ within ds (routes_of t k)) IsInOrder (λ e. h) (λ e. (whole ds g.2 (routes_of t k), h))
+    cond_both (same_hop s k) (within ds (routes_of t k)) (([], k) ∷ within ds (routes_of t k)) IsInOrder (λ e. h) (λ e. IsInOrder-with (Some k) (within ds (routes_of t k)) (own-within ds (routes_of t k) g.2) h)
 
 all_after : (x : List Bool) (t : List (List Bool × Option ℕ)) → ComesBeforeAll x t → All (λ r. bits_cmp x r.0 ≡ Less) t
 all_after x [] h = All-nil (λ r. bits_cmp x r.0 ≡ Less)

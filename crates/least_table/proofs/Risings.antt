@@ -4,7 +4,8 @@ use Rattle.std.proofs.lemmas.Bool.{ltb-true, ltb-false, lt-ltb, and_parts, and_r
 use Rattle.std.proofs.lemmas.List.Folds.{list_any-append}
 use Rattle.std.proofs.lemmas.List.{take_all}
 use Rattle.std.proofs.Math.Bool.{or-false, and_comm, or_assoc, or_comm, or-and_distrib_left}
-use Rattle.least_table.specs.HopSets.{same_hop, holds, meets, AreMerged}
+use Rattle.least_table.specs.BestHops.{Of, AreMerged}
+use Rattle.least_table.specs.HopSets.{same_hop, holds, meets}
 use Rattle.least_table.specs.InnerRising.{is_less, IsLessAll, IsRising, AreCommon, AreAll, CommonLeft, AllLeft}
 use Rattle.least_table.proofs.Sets.{same_hop-true, same_hop-refl, meets-true, meets-false}
 
@@ -170,12 +171,12 @@ all_end low high out (x ∷ a) (y ∷ b) (inl e) h = absurd (omega (arith, e))
 all_end low high out (x ∷ a) (y ∷ b) (inr e) h = absurd (omega (arith, e))
 
 -- what the two make of the best hops of both halves
-pub common_merged : (as' bs cs : List (Option ℕ)) → AreCommon as' bs cs → (length cs ≡ 0 → ⊥) → AreMerged as' bs cs
+pub common_merged : (as' bs cs : List (Option ℕ)) → AreCommon as' bs cs → (length cs ≡ 0 → ⊥) → AreMerged (Of as') (Of bs) (Of cs)
 common_merged as' bs [] c n k = absurd (n refl)
 common_merged as' bs (x ∷ cs) c n k = cond_both (meets as' bs) (holds as' k && holds bs k) (holds as' k || holds bs k) (λ u. holds (x ∷ cs) k ≡ u) (λ e. c.same k)
     (λ e. let p = and_parts (holds as' x) (holds bs x) (sym (c.same x) ∙ rw (same_hop-refl x) refl) in absurd (meets-false as' bs e x p.0 p.1))
 
-pub all_merged : (as' bs cs ds : List (Option ℕ)) → AreCommon as' bs cs → length cs ≡ 0 → AreAll as' bs ds → AreMerged as' bs ds
+pub all_merged : (as' bs cs ds : List (Option ℕ)) → AreCommon as' bs cs → length cs ≡ 0 → AreAll as' bs ds → AreMerged (Of as') (Of bs) (Of ds)
 all_merged as' bs (x ∷ cs) ds c e d k = absurd (omega (arith, e))
 all_merged as' bs [] ds c e d k = cond_both (meets as' bs) (holds as' k && holds bs k) (holds as' k || holds bs k) (λ u. holds ds k ≡ u)
     (λ f. let j = meets-true as' bs f in absurd (let z = c.same j.0 ∙ ap₂ (λ u v. u && v) j.1 j.2 in cc)) (λ f. d.same k)

@@ -1,16 +1,9 @@
--- A table as the routes at the empty block and the tables of the two halves.
-use Rattle.std.proofs.Common.{◌≡◌, ℕ, suc, ◌+◌, Bool, true, false, cond, List, [], ◌∷◌, ◌++◌, length, nat_lt, Option, Some, None, refl, ap, ◌∙◌, arith, inl, inr, length-append, map}
+-- A table as the route of the whole block and the tables of the halves.
+use Rattle.std.proofs.Common.{◌≡◌, ℕ, suc, ◌<◌, Bool, true, false, cond, List, [], ◌∷◌, ◌++◌, length, nat_lt, Option, Some, None, refl, ap, ◌∙◌, arith, inl, inr, map}
 use Rattle.std.proofs.lemmas.Bool.{ltb-true, ltb-false, lt-ltb, le-ltb, cases_Bool}
-use Rattle.std.proofs.lemmas.List.{length-map}
 use Rattle.ipnet_blocks.specs.BitStrings.{begins}
 use Rattle.least_table.specs.Tables.{Absent, IsTable, half, longer, longest, hop_of, hop_under, own, passed}
-use Rattle.least_table.specs.Trees.{inside}
-
--- how many routes stand at the empty block
-abbrev pub own_count : List (List Bool × Option ℕ) → ℕ
-own_count [] = 0
-own_count (([], k) ∷ t) = suc (own_count t)
-own_count ((b ∷ c, k) ∷ t) = own_count t
+use Rattle.least_table.specs.Trees.{inside, within}
 
 abbrev pub lifted : Bool → Option (Option ℕ) → Option (List Bool × Option ℕ) → Option (List Bool × Option ℕ)
 lifted b o (Some r) = Some (b ∷ r.0, r.1)
@@ -54,23 +47,16 @@ hop_of-lifted s b o (Some r) = refl
 pub hop-half : (s : Option ℕ) (t : List (List Bool × Option ℕ)) (b : Bool) (x : List Bool) → hop_under s t (b ∷ x) ≡ hop_under (passed s (own t)) (half t b) x
 hop-half s t b x = ap (hop_of s) (longest-half t b x) ∙ hop_of-lifted s b (own t) (longest (half t b) x)
 
--- only an own route holds the empty address
-pub longest-empty : (t : List (List Bool × Option ℕ)) → (own_count t ≡ 0) → longest t [] ≡ None
-longest-empty [] h = refl
-longest-empty (([], k) ∷ t) h = absurd (omega (arith, h))
-longest-empty ((b ∷ c, k) ∷ t) h = longest-empty t h
+-- only an own route contains the empty address
+pub longest-empty : (t : List (List Bool × Option ℕ)) → own t ≡ None → longest t [] ≡ None
+longest-empty [] e = refl
+longest-empty (([], k) ∷ t) e = cc
+longest-empty ((b ∷ c, k) ∷ t) e = longest-empty t e
 
-pub own-none : (t : List (List Bool × Option ℕ)) → own_count t ≡ 0 → own t ≡ None
-own-none [] h = refl
-own-none (([], k) ∷ t) h = absurd (omega (arith, h))
-own-none ((b ∷ c, k) ∷ t) h = own-none t h
-
--- every route is an own one, or in one half
-pub length-halves : (t : List (List Bool × Option ℕ)) → length t ≡ own_count t + length (half t false) + length (half t true)
-length-halves [] = refl
-length-halves (([], k) ∷ t) = omega (arith, length-halves t)
-length-halves ((false ∷ c, k) ∷ t) = omega (arith, length-halves t)
-length-halves ((true ∷ c, k) ∷ t) = omega (arith, length-halves t)
+pub own-absent : (t : List (List Bool × Option ℕ)) → Absent [] t → own t ≡ None
+own-absent [] h = refl
+own-absent (([], k) ∷ t) h = absurd (h.0 refl)
+own-absent ((b ∷ c, k) ∷ t) h = own-absent t h.1
 
 Absent-half : (t : List (List Bool × Option ℕ)) (b : Bool) (c : List Bool) → Absent (b ∷ c) t → Absent c (half t b)
 Absent-half [] b c h = tt
@@ -88,7 +74,7 @@ IsTable-half w ((false ∷ c, k) ∷ t) true h = IsTable-half w t true h.2
 IsTable-half w ((true ∷ c, k) ∷ t) false h = IsTable-half w t false h.2
 IsTable-half w ((true ∷ c, k) ∷ t) true h = (omega (arith, h.0), Absent-half t true c h.1, IsTable-half w t true h.2)
 
--- what is made of the own routes and the tables of the halves
+-- what is made of the tables of the halves
 abbrev pub joined : List (List Bool × Option ℕ) → List (List Bool × Option ℕ) → List (List Bool × Option ℕ)
 joined l r = inside false l ++ inside true r
 
@@ -111,7 +97,7 @@ Absent-inside b c [] h = tt
 Absent-inside b c (r ∷ t) h = ((λ e. h.0 (cc)), Absent-inside b c t h.1)
 
 -- routes whose blocks are all others
-pub Absent-map : (f : List Bool × Option ℕ → List Bool × Option ℕ) (c : List Bool) (t : List (List Bool × Option ℕ)) → ((r : List Bool × Option ℕ) → (f r).0 ≡ c → ⊥) → Absent c (map f t)
+Absent-map : (f : List Bool × Option ℕ → List Bool × Option ℕ) (c : List Bool) (t : List (List Bool × Option ℕ)) → ((r : List Bool × Option ℕ) → (f r).0 ≡ c → ⊥) → Absent c (map f t)
 Absent-map f c [] h = tt
 Absent-map f c (r ∷ t) h = (h r, Absent-map f c t h)
 
@@ -130,13 +116,10 @@ IsTable-joined w (q ∷ l) r h k = (omega (arith, h.0), Absent-append _ (inside 
 pub Absent-joined : (l r : List (List Bool × Option ℕ)) → Absent [] (joined l r)
 Absent-joined l r = Absent-append [] (inside false l) (inside true r) (Absent-map (λ p. (false ∷ p.0, p.1)) [] l (λ p e. cc)) (Absent-map (λ p. (true ∷ p.0, p.1)) [] r (λ p e. cc))
 
-pub own_count-absent : (t : List (List Bool × Option ℕ)) → Absent [] t → own_count t ≡ 0
-own_count-absent [] h = refl
-own_count-absent (([], k) ∷ t) h = absurd (h.0 refl)
-own_count-absent ((b ∷ c, k) ∷ t) h = own_count-absent t h.1
+pub own-joined : (l r : List (List Bool × Option ℕ)) → own (joined l r) ≡ None
+own-joined l r = own-absent (joined l r) (Absent-joined l r)
 
-length-inside : (b : Bool) (t : List (List Bool × Option ℕ)) → length (inside b t) ≡ length t
-length-inside b t = length-map t (λ r. (b ∷ r.0, r.1))
-
-pub length-joined : (l r : List (List Bool × Option ℕ)) → length (joined l r) ≡ length l + length r
-length-joined l r = omega (arith, length-append (inside false l) (inside true r), length-inside false l, length-inside true r)
+pub own-within : (ds : List Bool) (t : List (List Bool × Option ℕ)) → 0 < length ds → own (within ds t) ≡ None
+own-within [] t l = absurd (omega (arith, l))
+own-within (b ∷ ds) [] l = refl
+own-within (b ∷ ds) (r ∷ t) l = own-within (b ∷ ds) t l

@@ -1,5 +1,5 @@
 -- What the routes of the halves are as routes of the whole.
-use Rattle.std.proofs.Common.{◌≡◌, ℕ, Bool, true, false, List, [], ◌∷◌, ◌++◌, Option, refl, sym, ap₂, ◌∙◌, append_assoc, Result, Ok, Err, IfOk}
+use Rattle.std.proofs.Common.{◌≡◌, Bool, true, false, List, [], ◌∷◌, ◌++◌, refl, sym, ap₂, ◌∙◌, append_assoc, Result, Ok, Err, IfOk}
 use Rattle.std.proofs.lemmas.List.{map-append, map-id}
 use Rattle.least_table.specs.Trees.{inside, within}
 

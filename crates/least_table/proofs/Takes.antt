@@ -12,7 +12,8 @@ use Rattle.least_table.specs.InnerShapes.{shape_of}
 use Rattle.least_table.specs.declared.plan.Packed.{Packed}
 use Rattle.least_table.specs.declared.plan.Shape.TheVariants as shapes
 use Rattle.least_table.specs.declared.plan.Steps.{Steps}
-use Rattle.least_table.proofs.GrownStores.{leaf_stored, fork_stored, skip_stored, one_holds, one_passed}
+use Rattle.least_table.proofs.GrownStores.{leaf_stored, fork_stored, skip_stored, one_passed}
+use Rattle.least_table.proofs.Sets.{one_holds}
 use Rattle.least_table.proofs.Packed.{popped, kept_popped}
 use Rattle.least_table.proofs.Tops.{below, top_last}
 

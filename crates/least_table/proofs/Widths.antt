@@ -1,7 +1,8 @@
 -- Plans of blocks, by those of their halves.
 use Rattle.std.proofs.Common.{◌≡◌, ℕ, ◌+◌, inl, inr, Bool, true, false, List, [], ◌∷◌, length, Option, refl, arith}
 use Rattle.ipnet_blocks.specs.BitStrings.{begins}
-use Rattle.least_table.specs.HopSets.{holds, AreMerged}
+use Rattle.least_table.specs.BestHops.{Of, AreMerged}
+use Rattle.least_table.specs.HopSets.{holds}
 use Rattle.least_table.specs.InnerPlans.{Plan, Leaf, Pair, Fork, Half, Skip, OfHalf, OfHalves, top, tree_of}
 use Rattle.least_table.specs.InnerSteps.{step_best}
 use Rattle.least_table.specs.Trees.{best}
@@ -17,10 +18,10 @@ best_of_tree (Skip k ds t) = refl
 
 -- ---- both halves are planned
 
-pub forked : (p q : Plan) (hops : List (Option ℕ)) → AreMerged (step_best (top p)) (step_best (top q)) hops → OfHalves p q (Fork hops p q)
+pub forked : (p q : Plan) (hops : List (Option ℕ)) → AreMerged (Of (step_best (top p))) (Of (step_best (top q))) (Of hops) → OfHalves p q (Fork hops p q)
 forked p q hops m v h l r = (v, refl, rw (best_of_tree p, best_of_tree q) m, l, r)
 
-pub paired : (j k : Option ℕ) (hops : List (Option ℕ)) → AreMerged (j ∷ []) (k ∷ []) hops → OfHalves (Leaf j) (Leaf k) (Pair j k hops)
+pub paired : (j k : Option ℕ) (hops : List (Option ℕ)) → AreMerged (Of (j ∷ [])) (Of (k ∷ [])) (Of hops) → OfHalves (Leaf j) (Leaf k) (Pair j k hops)
 paired j k hops m v h l r = (v, refl, m, l, r)
 
 pub same_leaf : (k : Option ℕ) → OfHalves (Leaf k) (Leaf k) (Leaf k)
@@ -30,7 +31,7 @@ same_leaf k v h l r (true ∷ x) e = r x (omega (arith, e))
 
 -- ---- one half has one hop
 
-pub beside : (upper : Bool) (k : Option ℕ) (p : Plan) (hops : List (Option ℕ)) → AreMerged (k ∷ []) (step_best (top p)) hops → OfHalf upper k p (Half upper k hops p)
+pub beside : (upper : Bool) (k : Option ℕ) (p : Plan) (hops : List (Option ℕ)) → AreMerged (Of (k ∷ [])) (Of (step_best (top p))) (Of hops) → OfHalf upper k p (Half upper k hops p)
 beside true k p hops m = λ v h l r. (v, refl, rw (best_of_tree p) m, l, r)
 beside false k p hops m = λ v h l r. (v, refl, rw (best_of_tree p) (merged_swap (k ∷ []) (step_best (top p)) hops m), l, r)
 

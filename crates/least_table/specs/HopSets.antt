@@ -1,7 +1,6 @@
--- The best inherited hops of a block.
-use Rattle.std.specs.Prelude.{◌≡◌, ℕ, ◌+◌, Bool, true, false, cond, ◌&&◌, ◌||◌, ◌==◌, List, [], ◌∷◌, Option, Some, None}
+-- Lists of hops.
+use Rattle.std.specs.Prelude.{ℕ, Bool, true, false, cond, ◌==◌, List, [], ◌∷◌, Option, Some, None}
 use Rattle.std.specs.List.{list_any}
-use Rattle.least_table.specs.Tables.{IsFewest}
 
 -- whether two hops, or no hops, are the same
 abbrev pub same_hop : Option ℕ → Option ℕ → Bool
@@ -18,20 +17,11 @@ holds ks k = list_any (λ j. same_hop k j) ks
 abbrev pub meets : List (Option ℕ) → List (Option ℕ) → Bool
 meets as' bs = list_any (λ k. holds bs k) as'
 
--- cs are the hops in both lists, or all hops of both lists if they have none in common
-abbrev pub AreMerged : List (Option ℕ) → List (Option ℕ) → List (Option ℕ) → Type 0
-AreMerged as' bs cs = (k : Option ℕ) → holds cs k ≡ cond (meets as' bs) (holds as' k && holds bs k) (holds as' k || holds bs k)
-
 -- the first of the hops, or none if the list is empty
 abbrev pub first_of : List (Option ℕ) → Option ℕ
 first_of [] = None
 first_of (k ∷ ks) = k
 
--- 0 for a hop that is among the best, and one route for any other
+-- 0 for a hop that is among the best, and one operation for any other
 abbrev pub fee : Bool → ℕ
 fee b = cond b 0 1
-
--- a block of w free bits needs m routes if it inherits one of these hops, and one more if it inherits any other hop or none
-pub record AreBest (w : ℕ) (h : List Bool → Option ℕ) (hops : List (Option ℕ)) (m : ℕ) : Type 0 where
-  pub some : (k : Option ℕ) × (holds hops k ≡ true)
-  pub needs : (s : Option ℕ) → IsFewest w h s (m + fee (holds hops s))

@@ -1,31 +1,51 @@
--- The theorems about the fewest routes of a block and its best inherited hops, as statements.
-use Rattle.std.specs.Prelude.{◌≡◌, ◌≢◌, ℕ, ◌+◌, Bool, true, false, List, [], length, Option, None, ◌↔◌, ◌⊎◌}
-use Rattle.least_table.specs.Tables.{IsLeast, IsFewest, half_of}
+-- The theorems about the fewest operations of a block, its best inherited hops, and least tables, as statements.
+use Rattle.std.specs.Prelude.{◌≡◌, ◌≢◌, ℕ, ◌+◌, Bool, true, false, List, [], length, Option, Some, None, ◌≤◌, ◌↔◌, ◌⊎◌}
 use Rattle.ipnet_blocks.specs.Halves.{IsLesser}
-use Rattle.least_table.specs.HopSets.{meets, AreMerged, AreBest, fee}
+use Rattle.least_table.specs.BestHops.{Hops, Of, AreBest, AreMerged, agree}
+use Rattle.least_table.specs.HopSets.{fee}
+use Rattle.least_table.specs.Nearest.{IsFewest, IsNearest, distance}
+use Rattle.least_table.specs.Tables.{IsLeast, IsTable, half, half_of, own, passed}
 use Rattle.least_table.specs.Trees.{Tree, IsPlan, OneOutside, inner_of, routes_of, chain_hops, chain_fee}
+use Rattle.least_table.specs.Wholes.{bare}
 
--- a block of one address needs no route if it inherits its hop, and else one
+-- A block of one address needs no operation if its new hop is that of its installed route, or the inherited hop if it has no route.
+-- Else it needs one.
 abbrev pub HostLaw : Type 0
-HostLaw = (h : List Bool → Option ℕ) (s : Option ℕ) (n : ℕ) →
-    IsFewest 0 h s n ↔ (((h [] ≡ s) × (n ≡ 0)) ⊎ ((h [] ≢ s) × (n ≡ 1)))
+HostLaw = (h : List Bool → Option ℕ) (t : List (List Bool × Option ℕ)) → IsTable 0 t → (s : Option ℕ) (n : ℕ) →
+    IsFewest 0 h t s n ↔ (((h [] ≡ passed s (own t)) × (n ≡ 0)) ⊎ ((h [] ≢ passed s (own t)) × (n ≡ 1)))
 
--- any other block needs the lesser of two numbers, which its halves give
+-- Any other block needs the lesser of two numbers. The first is the sum of its halves if they inherit the hop of its installed route, or
+-- the same hop as the block if it has no route. The second is one more than their least sum under any one hop, or under none.
 abbrev pub HalvesLaw : Type 0
-HalvesLaw = (w : ℕ) (h : List Bool → Option ℕ) (f g : Option ℕ → ℕ) →
-    ((k : Option ℕ) → IsFewest w (half_of false h) k (f k)) →
-    ((k : Option ℕ) → IsFewest w (half_of true h) k (g k)) →
-    (s : Option ℕ) (n : ℕ) → IsFewest (w + 1) h s n ↔ IsLesser f g s n
+HalvesLaw = (w : ℕ) (h : List Bool → Option ℕ) (t : List (List Bool × Option ℕ)) → IsTable (w + 1) t → (f g : Option ℕ → ℕ) →
+    ((k : Option ℕ) → IsFewest w (half_of false h) (half t false) k (f k)) →
+    ((k : Option ℕ) → IsFewest w (half_of true h) (half t true) k (g k)) →
+    (s : Option ℕ) (n : ℕ) → IsFewest (w + 1) h t s n ↔ IsLesser f g (passed s (own t)) n
 
--- the best hops of a block are those of both halves if there are any; else those of either half, and it needs one route more
+-- if a block inherits another hop, it needs at most one operation more
+abbrev pub TwoValuesLaw : Type 0
+TwoValuesLaw = (w : ℕ) (h : List Bool → Option ℕ) (t : List (List Bool × Option ℕ)) → IsTable w t → (s k : Option ℕ) (m n : ℕ) →
+    IsFewest w h t s m → IsFewest w h t k n → m ≤ n + 1
+
+-- a block with an installed route needs the same number whatever it inherits: the number without this route, under its hop
+abbrev pub OwnLaw : Type 0
+OwnLaw = (w : ℕ) (h : List Bool → Option ℕ) (t : List (List Bool × Option ℕ)) → IsTable w t → (k : Option ℕ) → own t ≡ Some k →
+    (s : Option ℕ) (n : ℕ) → IsFewest w h (bare t) k n → IsFewest w h t s n
+
+-- the best inherited hops of a block without a route are those of both halves if there are any; else those of either half, and the block
+-- needs one operation more
 abbrev pub SetsLaw : Type 0
-SetsLaw = (w : ℕ) (h : List Bool → Option ℕ) (as' bs cs : List (Option ℕ)) (m n : ℕ) →
-    AreBest w (half_of false h) as' m → AreBest w (half_of true h) bs n → AreMerged as' bs cs → AreBest (w + 1) h cs (m + n + fee (meets as' bs))
+SetsLaw = (w : ℕ) (h : List Bool → Option ℕ) (t : List (List Bool × Option ℕ)) → IsTable (w + 1) t → own t ≡ None → (a b c : Hops) (m n : ℕ) →
+    AreBest w (half_of false h) (half t false) a m → AreBest w (half_of true h) (half t true) b n → AreMerged a b c → AreBest (w + 1) h t c (m + n + fee (agree a b))
 
--- several levels whose other halves all have the hop k, in one step
+-- several levels without a route, whose other halves all have the hop k, in one step
 abbrev pub ChainLaw : Type 0
 ChainLaw = (ds : List Bool) (v : ℕ) (h : List Bool → Option ℕ) (k : Option ℕ) (hops : List (Option ℕ)) (m : ℕ) →
-    AreBest v (inner_of ds h) hops m → OneOutside (length ds + v) h ds k → AreBest (length ds + v) h (chain_hops k hops ds) (m + chain_fee k hops ds)
+    AreBest v (inner_of ds h) [] (Of hops) m → OneOutside (length ds + v) h ds k → AreBest (length ds + v) h [] (Of (chain_hops k hops ds)) (m + chain_fee k hops ds)
+
+-- the distance of a table from the empty one is the number of its routes, so a least table is one that is nearest to the empty table
+abbrev pub EmptyLaw : Type 0
+EmptyLaw = (w : ℕ) (h : List Bool → Option ℕ) (u : List (List Bool × Option ℕ)) → (distance [] u ≡ length u) × (IsLeast w h u ↔ IsNearest w h None [] u)
 
 -- the routes of a plan are a least table
 abbrev pub TreesLaw : Type 0

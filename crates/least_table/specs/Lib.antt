@@ -1,7 +1,10 @@
 pub mod Tables
 pub mod Pieces
 pub mod HopSets
+pub mod Nearest
+pub mod BestHops
 pub mod Trees
+pub mod Wholes
 pub mod Laws
 pub mod InnerHops
 pub mod InnerPieces

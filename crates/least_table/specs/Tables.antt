@@ -45,11 +45,6 @@ pub record IsLeast (w : ℕ) (h : List Bool → Option ℕ) (t : List (List Bool
   pub gives : Gives w h None t
   pub fewest : (u : List (List Bool × Option ℕ)) → Gives w h None u → length t ≤ length u
 
--- n is the fewest routes that give the addresses of a block of w free bits the hops h, if the block inherits s
-pub record IsFewest (w : ℕ) (h : List Bool → Option ℕ) (s : Option ℕ) (n : ℕ) : Type 0 where
-  pub reached : (t : List (List Bool × Option ℕ)) × Gives w h s t × (length t ≡ n)
-  pub least : (u : List (List Bool × Option ℕ)) → Gives w h s u → n ≤ length u
-
 -- the hops of the half of a block that has the bit b first
 abbrev pub half_of : Bool → (List Bool → Option ℕ) → List Bool → Option ℕ
 half_of b h x = h (b ∷ x)

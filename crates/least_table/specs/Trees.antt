@@ -2,7 +2,8 @@
 use Rattle.std.specs.Prelude.{◌≡◌, ℕ, suc, ◌+◌, ◌<◌, ◌⊎◌, Bool, true, false, cond, List, [], ◌∷◌, ◌++◌, map, length, Option}
 use Rattle.ipnet_blocks.specs.BitStrings.{begins}
 use Rattle.least_table.specs.Tables.{half_of}
-use Rattle.least_table.specs.HopSets.{same_hop, holds, AreMerged, fee, first_of}
+use Rattle.least_table.specs.HopSets.{same_hop, holds, fee, first_of}
+use Rattle.least_table.specs.BestHops.{Of, AreMerged}
 
 -- A block whose addresses all have one hop; a block cut into halves, and its best inherited hops; and a block in which all addresses
 -- outside a smaller block have one hop.
@@ -32,7 +33,7 @@ CanSkip hops k ds = (0 < length ds) × ((holds hops k ≡ true) ⊎ (1 < length 
 -- the tree is a plan of a block of w free bits whose addresses have the hops h
 abbrev pub IsPlan : ℕ → (List Bool → Option ℕ) → Tree → Type 0
 IsPlan w h (Leaf k) = (x : List Bool) → length x ≡ w → h x ≡ k
-IsPlan w h (Fork hops l r) = (v : ℕ) × (w ≡ suc v) × AreMerged (best l) (best r) hops × IsPlan v (half_of false h) l × IsPlan v (half_of true h) r
+IsPlan w h (Fork hops l r) = (v : ℕ) × (w ≡ suc v) × AreMerged (Of (best l)) (Of (best r)) (Of hops) × IsPlan v (half_of false h) l × IsPlan v (half_of true h) r
 IsPlan w h (Skip k ds t) = (v : ℕ) × (w ≡ length ds + v) × CanSkip (best t) k ds × OneOutside (length ds + v) h ds k × IsPlan v (inner_of ds h) t
 
 -- the routes of a half, as routes of the block

@@ -1,6 +1,7 @@
 //! Sets of hops, as ascending lists: no hop first, and then numbers.
 ghost use Rattle.std.specs.Prelude.{◌≡◌, ◌∷◌, [], drop, IfOk};
-ghost use Rattle.least_table.specs.HopSets.{same_hop, holds, first_of, AreMerged};
+ghost use Rattle.least_table.specs.BestHops.{Of, AreMerged};
+ghost use Rattle.least_table.specs.HopSets.{same_hop, holds, first_of};
 ghost use Rattle.least_table.specs.InnerHops.{members, second_of};
 ghost use Rattle.least_table.specs.InnerRising.{is_less, IsRising, AreCommon, AreAll};
 
@@ -161,7 +162,7 @@ fn all(
 
 /// The set of two hops, which may be the same.
 fn pair(a: Option<u32>, b: Option<u32>) -> Hops
-    ensures merged { AreMerged (a ∷ []) (b ∷ []) (members result) }
+    ensures merged { AreMerged (Of (a ∷ [])) (Of (b ∷ [])) (Of (members result)) }
     ensures rising { IsRising (members result) }
 {
     if is_less(a, b) {
@@ -177,7 +178,7 @@ fn pair(a: Option<u32>, b: Option<u32>) -> Hops
 fn merge_lists(alloc: Global, low: &[Option<u32>], high: &[Option<u32>]) -> Result<Hops, AllocError>
     requires low_rises { IsRising low.now }
     requires high_rises { IsRising high.now }
-    ensures merged { IfOk result (λ hops. AreMerged low.now high.now (members hops)) }
+    ensures merged { IfOk result (λ hops. AreMerged (Of low.now) (Of high.now) (Of (members hops))) }
     ensures rising { IfOk result (λ hops. IsRising (members hops)) }
 {
     let shared = common(alloc, low, high)?;
@@ -192,7 +193,7 @@ fn merge_lists(alloc: Global, low: &[Option<u32>], high: &[Option<u32>]) -> Resu
 pub fn merge(alloc: Global, low: &[Option<u32>], high: &[Option<u32>]) -> Result<Hops, AllocError>
     requires low_rises { IsRising low.now }
     requires high_rises { IsRising high.now }
-    ensures merged { IfOk result (λ hops. AreMerged low.now high.now (members hops)) }
+    ensures merged { IfOk result (λ hops. AreMerged (Of low.now) (Of high.now) (Of (members hops))) }
     ensures rising { IfOk result (λ hops. IsRising (members hops)) }
 {
     match (low, high) {

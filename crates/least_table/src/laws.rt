@@ -1,19 +1,31 @@
-//! Theorems about the fewest routes: public functions without a body, whose contracts are the theorems.
-ghost use Rattle.least_table.specs.Laws.{HostLaw, HalvesLaw, SetsLaw, ChainLaw, TreesLaw};
+//! Theorems about the fewest operations and routes: public functions without a body, whose contracts are the theorems.
+ghost use Rattle.least_table.specs.Laws.{HostLaw, HalvesLaw, TwoValuesLaw, OwnLaw, SetsLaw, ChainLaw, EmptyLaw, TreesLaw};
 
-/// A block of one address needs no route if it inherits its hop, and else one. Any other block needs the lesser of two numbers. The
-/// first is what its halves need together if they inherit the same hop as the block. The second is one more than the least that
-/// they need together under any one hop, or under none.
+/// A block of one address needs no operation if it has its new hop by its own installed route, or inherits it and has no route. Else
+/// it needs one. Any other block needs the lesser of two sums over its halves. For the first, they inherit the hop of the block's
+/// installed route, or the same hop as the block if it has no route. The second is the least sum under any one hop or under none, and
+/// one more.
 pub fn fewest()
     ensures host { HostLaw }
     ensures halves { HalvesLaw }
 {}
 
-/// The best inherited hops of a block follow from those of its halves. If all addresses outside a smaller block have one hop, they
-/// follow from those of the smaller block.
+/// The inherited hop counts for at most one operation, and for none if the block has an installed route.
+pub fn two_values()
+    ensures two { TwoValuesLaw }
+    ensures own { OwnLaw }
+{}
+
+/// The best inherited hops of a block without an installed route follow from those of its halves. If no route is installed and all
+/// addresses outside a smaller block have one hop, they follow from those of the smaller block.
 pub fn best_hops()
     ensures halves { SetsLaw }
     ensures chain { ChainLaw }
+{}
+
+/// A least table is one that is nearest to the empty table: each of its routes is one operation.
+pub fn empty()
+    ensures { EmptyLaw }
 {}
 
 /// The routes of a plan are a least table.

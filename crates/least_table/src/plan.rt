@@ -1,6 +1,7 @@
 //! Plans: the best inherited hops of each block, as a sequence of steps.
 ghost use Rattle.std.specs.Prelude.{◌≡◌, ◌-◌, ◌<◌, ◌≤◌, ◌++◌, ◌∷◌, [], List, ℕ, None, Option, Some, Bool, drop, length, IfOk, IfSome, MatchOption, OnOk, not, true};
-ghost use Rattle.least_table.specs.HopSets.{AreMerged, first_of, holds};
+ghost use Rattle.least_table.specs.BestHops.{Of, AreMerged};
+ghost use Rattle.least_table.specs.HopSets.{first_of, holds};
 ghost use Rattle.least_table.specs.InnerPacked.{AreWhole, Grows, IsAlways, IsKept, IsWider, best_at, hops_in, step_of, steps_in};
 ghost use Rattle.least_table.specs.InnerHops.{members};
 ghost use Rattle.least_table.specs.InnerPlanners.{Plans};
@@ -294,7 +295,7 @@ impl Steps {
         requires high { high < length (steps_in self.now) }
         requires low_rises { IsRising (best_at self.now low) }
         requires high_rises { IsRising (best_at self.now high) }
-        ensures merged { IfOk result (λ hops. AreMerged (best_at self.now low) (best_at self.now high) (members hops)) }
+        ensures merged { IfOk result (λ hops. AreMerged (Of (best_at self.now low)) (Of (best_at self.now high)) (Of (members hops))) }
         ensures rising { IfOk result (λ hops. IsRising (members hops)) }
     {
         let below = self.best(*self.steps.get(low));

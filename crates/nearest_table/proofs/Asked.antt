@@ -2,8 +2,9 @@
 use Rattle.std.proofs.Common.{◌≡◌, ℕ, suc, Bool, true, false, cond, not, List, [], ◌∷◌, length, nat_lt, Option, Some, None, refl, sym, ap, ap₂, ◌∙◌, arith}
 use Rattle.std.proofs.lemmas.Bool.{lt-ltb, le-ltb, ltb-true, ltb-false}
 use Rattle.nearest_table.specs.Asked.{AskedLaw, NoneInside, at, hop_if, shorter}
-use Rattle.nearest_table.specs.Nearest.{same_string}
-use Rattle.nearest_table.specs.Blocks.{bare, inner, around, innermost}
+use Rattle.least_table.specs.Nearest.{same_string}
+use Rattle.least_table.specs.Wholes.{bare}
+use Rattle.nearest_table.specs.Blocks.{inner, around, innermost}
 use Rattle.least_table.specs.Tables.{half, longest, own}
 use Rattle.least_table.proofs.Split.{lifted, longest-half}
 

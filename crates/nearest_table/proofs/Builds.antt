@@ -1,16 +1,17 @@
 -- Plans of blocks, from the changes and the routes inside.
 use Rattle.std.proofs.Common.{◌≡◌, ℕ, zero, suc, ◌-◌, ◌<◌, ◌≤◌, Bool, true, false, List, [], ◌∷◌, ◌++◌, length, replicate, Option, Some, None, MatchOption, refl, sym, ap, ap₂, ◌∙◌, subst, arith, length-append}
 use Rattle.std.proofs.Math.ListN.{length-replicate}
-use Rattle.nearest_table.specs.Hops.{Any, Of}
+use Rattle.least_table.specs.BestHops.{Any, Of}
 use Rattle.nearest_table.specs.InnerPlans.{HasMore, IsJoined, IsTold, Plans, owned_tree, tree_of}
 use Rattle.nearest_table.specs.Plans.{Tree, Stay, Fork, Held, IsPlan, best}
 use Rattle.nearest_table.specs.Wanted.{Rises}
 use Rattle.least_table.specs.Tables.{IsTable, half, half_of, hop_under, longest, own, passed}
-use Rattle.nearest_table.specs.Blocks.{bare, inner, IsCovered, innermost}
+use Rattle.least_table.specs.Wholes.{bare}
+use Rattle.nearest_table.specs.Blocks.{inner, IsCovered, innermost}
 use Rattle.nearest_table.specs.Told.{new_hop}
 use Rattle.nearest_table.specs.declared.plans.Plan.{Plan, One, Idle}
 use Rattle.least_table.proofs.Split.{hop-half, IsTable-half}
-use Rattle.nearest_table.proofs.Owns.{IsTable-bare, own-bare, half-bare, same_hops}
+use Rattle.least_table.proofs.Owns.{IsTable-bare, own-bare, half-bare, same_hops}
 use Rattle.nearest_table.proofs.TreeEdits.{no_bare}
 
 -- a plan for one function of hops is one for the same

@@ -1,12 +1,13 @@
 -- Whether each address of a block has a route, by its halves.
 use Rattle.std.proofs.Common.{◌≡◌, ℕ, zero, suc, ◌-◌, ◌<◌, Bool, true, false, List, [], ◌∷◌, ◌++◌, length, replicate, is_some, Option, Some, None, refl, sym, ap, ap₂, ◌∙◌, subst, arith}
 use Rattle.std.proofs.Math.ListN.{length-replicate}
-use Rattle.nearest_table.specs.Blocks.{Covers, bare, inner, IsCovered}
+use Rattle.least_table.specs.Wholes.{bare}
+use Rattle.nearest_table.specs.Blocks.{Covers, inner, IsCovered}
 use Rattle.least_table.specs.Tables.{IsTable, half, longest, own}
 use Rattle.least_table.proofs.Split.{lifted, longest-half}
 use Rattle.nearest_table.proofs.Builds.{inner-more, less, no_bits}
 use Rattle.nearest_table.proofs.TreeEdits.{no_bare}
-use Rattle.nearest_table.proofs.Trees.{own_covers}
+use Rattle.least_table.proofs.Makes.{own_covers}
 
 pub covered_own : (w : ℕ) (t : List (List Bool × Option ℕ)) (o : Option (Option ℕ)) → o ≡ own t → is_some o ≡ true → IsTable w t → IsCovered true w t
 covered_own w t None e f h = cc

@@ -1,7 +1,3 @@
-pub mod Distances
-pub mod Halves
-pub mod Owns
-pub mod Merges
 pub mod Locals
 pub mod Trees
 pub mod TreeEdits

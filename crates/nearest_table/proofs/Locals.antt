@@ -1,35 +1,15 @@
 -- No route outside a block needs a change if the addresses outside keep their hops.
-use Rattle.std.proofs.Common.{◌≡◌, ℕ, zero, suc, ◌+◌, ◌≤◌, Bool, true, false, List, [], ◌∷◌, length, Option, refl, sym, ap, ◌∙◌, subst, arith, ⊎_elim, zero-add}
+use Rattle.std.proofs.Common.{◌≡◌, ℕ, suc, ◌+◌, ◌≤◌, Bool, true, false, List, [], ◌∷◌, length, Option, refl, sym, ◌∙◌, subst, arith, ⊎_elim, zero-add}
 use Rattle.least_table.specs.Tables.{IsTable, Gives, half, half_of, hop_under, own, passed}
-use Rattle.nearest_table.specs.Blocks.{put, whole}
-use Rattle.nearest_table.specs.Nearest.{IsNearest, distance, missing}
-use Rattle.nearest_table.specs.Laws.{EmptyLaw, LocalLaw}
-use Rattle.nearest_table.proofs.Distances.{change, distance-halves}
+use Rattle.least_table.specs.Wholes.{whole}
+use Rattle.nearest_table.specs.Blocks.{put}
+use Rattle.least_table.specs.Nearest.{IsNearest, distance}
+use Rattle.nearest_table.specs.Laws.{LocalLaw}
+use Rattle.least_table.proofs.Distances.{change, distance-halves}
 use Rattle.least_table.proofs.Split.{hop-half, IsTable-half}
-use Rattle.nearest_table.proofs.Halves.{Gives-half, Gives-whole, change_same, change_cases, distance-whole, hop-empty, host_distance}
-use Rattle.nearest_table.proofs.Owns.{turned}
-
--- a table is at no distance from itself
-pub distance-self : (w : ℕ) (t : List (List Bool × Option ℕ)) → IsTable w t → distance t t ≡ 0
-distance-self zero t h = host_distance t t h h ∙ change_same (own t)
-distance-self (suc w) t h = omega (arith, distance-halves (suc w) (suc w) t t h h, change_same (own t), distance-self w (half t false) (IsTable-half w t false h), distance-self w (half t true) (IsTable-half w t true h))
-
--- tables at no distance have the same hops
-pub distance-zero : (w : ℕ) (t u : List (List Bool × Option ℕ)) → IsTable w t → IsTable w u → distance t u ≡ 0 → (s : Option ℕ) (x : List Bool) → length x ≡ w → hop_under s t x ≡ hop_under s u x
-distance-zero w t u h k e s [] l = hop-empty w s t h ∙ ap (passed s) (same w t u h k e) ∙ sym (hop-empty w s u k)
-  where
-    same : (w : ℕ) (t u : List (List Bool × Option ℕ)) → IsTable w t → IsTable w u → distance t u ≡ 0 → own t ≡ own u
-    same w t u h k e = ⊎_elim (λ f. f) (λ f. absurd (omega (arith, e, f, distance-halves w w t u h k))) (change_cases (own t) (own u))
-distance-zero zero t u h k e s (b ∷ x) l = absurd (omega (arith, l))
-distance-zero (suc w) t u h k e s (b ∷ x) l =
-    hop-half s t b x ∙ ap (λ o. hop_under (passed s o) (half t b) x) owns ∙ distance-zero w (half t b) (half u b) (IsTable-half w t b h) (IsTable-half w u b k) (at b) (passed s (own u)) x (omega (arith, l)) ∙ sym (hop-half s u b x)
-  where
-    owns : own t ≡ own u
-    owns = ⊎_elim (λ f. f) (λ f. absurd (omega (arith, e, f, distance-halves (suc w) (suc w) t u h k))) (change_cases (own t) (own u))
-
-    at : (b : Bool) → distance (half t b) (half u b) ≡ 0
-    at false = omega (arith, e, distance-halves (suc w) (suc w) t u h k)
-    at true = omega (arith, e, distance-halves (suc w) (suc w) t u h k)
+use Rattle.least_table.proofs.Halves.{Gives-half, Gives-whole, change_same, change_cases, distance-whole}
+use Rattle.least_table.proofs.Makes.{distance-self}
+use Rattle.least_table.proofs.Owns.{turned}
 
 module _ (w : ℕ) (h : List Bool → Option ℕ) (s : Option ℕ) (t : List (List Bool × Option ℕ)) (table : IsTable (suc w) t) where
   abbrev pub p : Option ℕ
@@ -79,10 +59,3 @@ local_law (true ∷ ds) v h s t u table same n =
     let less : IsTable (suc w) t = subst (λ i. IsTable i t) (sym (one_more (length ds) v)) table in
     let y = local_law ds v (half_of true h) (passed s (own t)) (half t true) u (IsTable-half w t true less) (λ x l e. same (true ∷ x) (omega (arith, l)) e ∙ hop-half s t true x) n in
     subst (λ i. IsNearest i h s t (put (true ∷ ds) t u)) (one_more (length ds) v) (high_half w h s t less (put ds (half t true) u) y (λ x l. same (false ∷ x) (omega (arith, l)) refl))
-
-all_missing : (u : List (List Bool × Option ℕ)) → missing [] u ≡ u
-all_missing [] = refl
-all_missing (r ∷ u) = ap (λ v. r ∷ v) (all_missing u)
-
-pub empty_law : EmptyLaw
-empty_law u = omega (arith, ap length (all_missing u))

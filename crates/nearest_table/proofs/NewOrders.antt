@@ -1,48 +1,19 @@
 -- The tables that plans make are in order.
-use Rattle.std.proofs.Common.{◌≡◌, Bool, true, false, cond, List, [], ◌∷◌, ◌++◌, ℕ, suc, Option, Some, None, refl, subst}
-use Rattle.least_table.specs.InnerOrders.{ComesBeforeAll, IsInOrder}
-use Rattle.nearest_table.specs.Hops.{Any, Of, first, wants}
+use Rattle.std.proofs.Common.{◌≡◌, Bool, true, false, cond, List, [], ◌∷◌, ℕ, suc, Option, Some, None, refl, subst}
+use Rattle.least_table.specs.InnerOrders.{IsInOrder}
+use Rattle.least_table.specs.BestHops.{Any, Of, first, wants}
 use Rattle.least_table.specs.HopSets.{first_of, holds}
 use Rattle.nearest_table.specs.Plans.{Tree, Stay, Fork, Held, best, IsPlan, new_table}
 use Rattle.least_table.specs.Tables.{IsTable, half, half_of, own}
-use Rattle.nearest_table.specs.Blocks.{bare, put, with_own}
-use Rattle.least_table.specs.Trees.{inside}
-use Rattle.least_table.proofs.Split.{joined, IsTable-half}
-use Rattle.nearest_table.proofs.Halves.{own-whole}
-use Rattle.nearest_table.proofs.Owns.{IsTable-bare, own-bare}
-use Rattle.nearest_table.proofs.Trees.{Best-plan, own_covers, plain}
+use Rattle.least_table.specs.Wholes.{bare}
+use Rattle.nearest_table.specs.Blocks.{put}
+use Rattle.least_table.proofs.Split.{joined, own-joined, IsTable-half}
+use Rattle.least_table.proofs.Makes.{own_covers}
+use Rattle.least_table.proofs.Orders.{IsInOrder-joined, IsInOrder-with}
+use Rattle.least_table.proofs.Owns.{IsTable-bare, own-bare}
+use Rattle.nearest_table.proofs.Trees.{Best-plan, plain}
 use Rattle.nearest_table.proofs.TreeEdits.{ordered_bare, ordered_half}
-use Rattle.nearest_table.proofs.Merges.{first-wanted}
-
-before_in : (b : Bool) (a : List Bool) (t : List (List Bool × Option ℕ)) → ComesBeforeAll a t → ComesBeforeAll (b ∷ a) (inside b t)
-before_in b a [] h = tt
-before_in true a (r ∷ t) h = (h.0, before_in true a t h.1)
-before_in false a (r ∷ t) h = (h.0, before_in false a t h.1)
-
-ordered_in : (b : Bool) (t : List (List Bool × Option ℕ)) → IsInOrder t → IsInOrder (inside b t)
-ordered_in b [] h = tt
-ordered_in b (r ∷ t) h = (before_in b r.0 t h.0, ordered_in b t h.1)
-
-before_high : (a : List Bool) (t : List (List Bool × Option ℕ)) → ComesBeforeAll (false ∷ a) (inside true t)
-before_high a [] = tt
-before_high a (r ∷ t) = (refl, before_high a t)
-
-before_append : (a : List Bool) (t u : List (List Bool × Option ℕ)) → ComesBeforeAll a t → ComesBeforeAll a u → ComesBeforeAll a (t ++ u)
-before_append a [] u h k = k
-before_append a (r ∷ t) u h k = (h.0, before_append a t u h.1 k)
-
-ordered_joined : (l r : List (List Bool × Option ℕ)) → IsInOrder l → IsInOrder r → IsInOrder (joined l r)
-ordered_joined [] r h k = ordered_in true r k
-ordered_joined (q ∷ l) r h k = (before_append (false ∷ q.0) (inside false l) (inside true r) (before_in false q.0 l h.0) (before_high q.0 r), ordered_joined l r h.1 k)
-
-after_whole : (u : List (List Bool × Option ℕ)) → own u ≡ None → ComesBeforeAll [] u
-after_whole [] e = tt
-after_whole (([], k) ∷ u) e = cc
-after_whole ((b ∷ c, k) ∷ u) e = (refl, after_whole u e)
-
-ordered_with : (o : Option (Option ℕ)) (u : List (List Bool × Option ℕ)) → own u ≡ None → IsInOrder u → IsInOrder (with_own o u)
-ordered_with None u e h = h
-ordered_with (Some k) u e h = (after_whole u e, h)
+use Rattle.least_table.proofs.Merges.{first-wanted}
 
 either : (v : Bool) (x y : List (List Bool × Option ℕ)) → IsInOrder x → IsInOrder y → IsInOrder (cond v x y)
 either true x y h k = h
@@ -58,24 +29,24 @@ held_ordered w h t k p table plan inner s = go (wants (best p) k) (wants (best p
     some = let c = (Best-plan w h (bare t) p (IsTable-bare w t table) plan).some in first-wanted (best p) c.0 c.1
 
     go : (u v : Bool) → wants (best p) k ≡ u → wants (best p) s ≡ v → IsInOrder (cond u (([], k) ∷ new_table p (bare t) k) (cond v (new_table p (bare t) s) (([], first (best p)) ∷ new_table p (bare t) (first (best p)))))
-    go true v e f = ordered_with (Some k) (new_table p (bare t) k) (nothing k e) (inner k)
+    go true v e f = IsInOrder-with (Some k) (new_table p (bare t) k) (nothing k e) (inner k)
     go false true e f = inner s
-    go false false e f = ordered_with (Some (first (best p))) (new_table p (bare t) (first (best p))) (nothing (first (best p)) some) (inner (first (best p)))
+    go false false e f = IsInOrder-with (Some (first (best p))) (new_table p (bare t) (first (best p))) (nothing (first (best p)) some) (inner (first (best p)))
 
 pub ordered_new : (w : ℕ) (h : List Bool → Option ℕ) (t : List (List Bool × Option ℕ)) (p : Tree) → IsTable w t → IsInOrder t → IsPlan w h t p → (s : Option ℕ) → IsInOrder (new_table p t s)
 ordered_new w h t (Stay Any) table order plan s = order
-ordered_new w h t (Stay (Of ks)) table order plan s = either (holds ks s) t (([], first_of ks) ∷ t) order (ordered_with (Some (first_of ks)) t (own_covers w t plan.1.2 table plan.1.4) order)
+ordered_new w h t (Stay (Of ks)) table order plan s = either (holds ks s) t (([], first_of ks) ∷ t) order (IsInOrder-with (Some (first_of ks)) t (own_covers w t plan.1.2 table plan.1.4) order)
 ordered_new w h t (Fork hops l r) table order plan s =
     let less : IsTable (suc plan.0) t = subst (λ i. IsTable i t) plan.1 table in
-    let both : (c : Option ℕ) → IsInOrder (joined (new_table l (half t false) c) (new_table r (half t true) c)) = λ c. ordered_joined (new_table l (half t false) c) (new_table r (half t true) c)
+    let both : (c : Option ℕ) → IsInOrder (joined (new_table l (half t false) c) (new_table r (half t true) c)) = λ c. IsInOrder-joined (new_table l (half t false) c) (new_table r (half t true) c)
     (ordered_new plan.0 (half_of false h) (half t false) l (IsTable-half plan.0 t false less) (ordered_half t false order) plan.4 c)
     (ordered_new plan.0 (half_of true h) (half t true) r (IsTable-half plan.0 t true less) (ordered_half t true order) plan.5 c) in
     either (wants hops s) (joined (new_table l (half t false) s) (new_table r (half t true) s)) (([], first hops) ∷ joined (new_table l (half t false) (first hops)) (new_table r (half t true) (first hops))) (both s)
-    (ordered_with (Some (first hops)) (joined (new_table l (half t false) (first hops)) (new_table r (half t true) (first hops))) (own-whole None (new_table l (half t false) (first hops)) (new_table r (half t true) (first hops))) (both (first hops)))
+    (IsInOrder-with (Some (first hops)) (joined (new_table l (half t false) (first hops)) (new_table r (half t true) (first hops))) (own-joined (new_table l (half t false) (first hops)) (new_table r (half t true) (first hops))) (both (first hops)))
 ordered_new w h t (Held k p) table order plan s = held_ordered w h t k p table plan.1 (λ c. ordered_new w h (bare t) p (IsTable-bare w t table) (ordered_bare t order) plan.1 c) s
 
 -- a table is in order if the routes inside a block are replaced by such a table
 pub ordered_put : (ds : List Bool) (t u : List (List Bool × Option ℕ)) → IsInOrder t → IsInOrder u → IsInOrder (put ds t u)
 ordered_put [] t u h k = k
-ordered_put (false ∷ ds) t u h k = ordered_with (own t) (joined (put ds (half t false) u) (half t true)) (own-whole None (put ds (half t false) u) (half t true)) (ordered_joined (put ds (half t false) u) (half t true) (ordered_put ds (half t false) u (ordered_half t false h) k) (ordered_half t true h))
-ordered_put (true ∷ ds) t u h k = ordered_with (own t) (joined (half t false) (put ds (half t true) u)) (own-whole None (half t false) (put ds (half t true) u)) (ordered_joined (half t false) (put ds (half t true) u) (ordered_half t false h) (ordered_put ds (half t true) u (ordered_half t true h) k))
+ordered_put (false ∷ ds) t u h k = IsInOrder-with (own t) (joined (put ds (half t false) u) (half t true)) (own-joined (put ds (half t false) u) (half t true)) (IsInOrder-joined (put ds (half t false) u) (half t true) (ordered_put ds (half t false) u (ordered_half t false h) k) (ordered_half t true h))
+ordered_put (true ∷ ds) t u h k = IsInOrder-with (own t) (joined (half t false) (put ds (half t true) u)) (own-joined (half t false) (put ds (half t true) u)) (IsInOrder-joined (half t false) (put ds (half t true) u) (ordered_half t false h) (ordered_put ds (half t true) u (ordered_half t true h) k))

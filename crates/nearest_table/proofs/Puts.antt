@@ -5,19 +5,19 @@ use Rattle.nearest_table.specs.Changed.{AreInside, MakeNearest}
 use Rattle.nearest_table.specs.Edits.{AreEdits}
 use Rattle.least_table.specs.InnerOrders.{IsInOrder}
 use Rattle.nearest_table.specs.InnerPlans.{Fits, Plans, tree_of}
-use Rattle.nearest_table.specs.Nearest.{IsNearest}
+use Rattle.least_table.specs.Nearest.{IsNearest}
 use Rattle.nearest_table.specs.Plans.{Tree, Stay, Fork, Held, IsPlan, edits_of, new_table}
 use Rattle.least_table.specs.Trees.{inside, within, inner_of}
 use Rattle.least_table.specs.Tables.{IsTable, half, half_of, hop_of, hop_under, own, passed}
-use Rattle.nearest_table.specs.Blocks.{bare, handed, inner, put, whole, around, innermost}
+use Rattle.least_table.specs.Wholes.{bare, whole}
+use Rattle.nearest_table.specs.Blocks.{handed, inner, put, around, innermost}
 use Rattle.nearest_table.specs.Told.{new_hop, told_hop}
 use Rattle.nearest_table.specs.declared.plans.Plan.{Plan}
-use Rattle.least_table.proofs.Stores.{within-whole}
-use Rattle.least_table.proofs.Split.{hop-half, joined, IsTable-half}
+use Rattle.least_table.proofs.Stores.{within-whole, within_within}
+use Rattle.least_table.proofs.Split.{hop-half, joined, own-joined, IsTable-half}
 use Rattle.nearest_table.proofs.Builds.{passed_told}
-use Rattle.nearest_table.proofs.Halves.{own-whole}
 use Rattle.nearest_table.proofs.Locals.{local_law}
-use Rattle.nearest_table.proofs.Owns.{own-bare, half-bare}
+use Rattle.least_table.proofs.Owns.{own-bare, half-bare}
 use Rattle.nearest_table.proofs.NewOrders.{ordered_new, ordered_put}
 use Rattle.nearest_table.proofs.Trees.{plans_law}
 use Rattle.nearest_table.proofs.TreeEdits.{edits-joined, edits-kept, edits-none, edits_law, held_first, ordered_bare, ordered_half, ordered_split}
@@ -30,25 +30,21 @@ edits-whole w t l r es fs table order a b = go (own t) refl
     go : (o : Option (Option ℕ)) → own t ≡ o → AreEdits t (whole o l r) (inside false es ++ inside true fs)
     go None e = edits-joined t l r es fs (ordered_split t order ∙ ap (λ o. whole o (half t false) (half t true)) e) a b
     go (Some k) e =
-        edits-kept w t (joined l r) k (inside false es ++ inside true fs) table e (held_first k t order e) (own-whole None l r)
+        edits-kept w t (joined l r) k (inside false es ++ inside true fs) table e (held_first k t order e) (own-joined l r)
         (edits-joined (bare t) l r es fs (ordered_split (bare t) (ordered_bare t order) ∙ ap (λ o. whole o (half (bare t) false) (half (bare t) true)) (own-bare t))
         (subst (λ u. AreEdits u l es) (sym (half-bare t false)) a) (subst (λ u. AreEdits u r fs) (sym (half-bare t true)) b))
-
-within-step : (b : Bool) (ds : List Bool) (es : List (List Bool × Option (Option ℕ))) → within (b ∷ ds) es ≡ inside b (within ds es)
-within-step b ds [] = refl
-within-step b ds (e ∷ es) = ap (λ fs. (b ∷ (ds ++ e.0), e.1) ∷ fs) (within-step b ds es)
 
 pub edits-put : (ds : List Bool) (v : ℕ) (t u : List (List Bool × Option ℕ)) (es : List (List Bool × Option (Option ℕ))) → IsTable (length ds + v) t → IsInOrder t → AreEdits (inner ds t) u es → AreEdits t (put ds t u) (within ds es)
 edits-put [] v t u es table order a = subst (AreEdits t u) (sym (within-whole es)) a
 edits-put (false ∷ ds) v t u es table order a =
     let w = length ds + v in
     let less : IsTable (suc w) t = subst (λ i. IsTable i t) (omega arith) table in
-    subst (AreEdits t (put (false ∷ ds) t u)) (append-nil (inside false (within ds es)) ∙ sym (within-step false ds es))
+    subst (AreEdits t (put (false ∷ ds) t u)) (append-nil (inside false (within ds es)) ∙ within_within (false ∷ []) ds es)
     (edits-whole (suc w) t (put ds (half t false) u) (half t true) (within ds es) [] less order (edits-put ds v (half t false) u es (IsTable-half w t false less) (ordered_half t false order) a) (edits-none w (half t true) (IsTable-half w t true less)))
 edits-put (true ∷ ds) v t u es table order a =
     let w = length ds + v in
     let less : IsTable (suc w) t = subst (λ i. IsTable i t) (omega arith) table in
-    subst (AreEdits t (put (true ∷ ds) t u)) (sym (within-step true ds es))
+    subst (AreEdits t (put (true ∷ ds) t u)) (within_within (true ∷ []) ds es)
     (edits-whole (suc w) t (half t false) (put ds (half t true) u) [] (within ds es) less order (edits-none w (half t false) (IsTable-half w t false less)) (edits-put ds v (half t true) u es (IsTable-half w t true less) (ordered_half t true order) a))
 
 -- ---- hops

@@ -1,8 +1,8 @@
 -- Worked rows of the definitions: blocks of at most two bits.
 use Rattle.std.proofs.Common.{◌≡◌, Bool, true, false, List, [], ◌∷◌, ℕ, Option, Some, None, refl}
 use Rattle.nearest_table.specs.Asked.{at}
-use Rattle.nearest_table.specs.Hops.{Any, Of}
-use Rattle.nearest_table.specs.Nearest.{distance}
+use Rattle.least_table.specs.BestHops.{Any, Of}
+use Rattle.least_table.specs.Nearest.{distance}
 use Rattle.nearest_table.specs.Plans.{Tree, Stay, Fork, Held, edits_of, new_table}
 use Rattle.nearest_table.specs.Blocks.{inner, put, around}
 use Rattle.nearest_table.specs.Told.{told_hop}

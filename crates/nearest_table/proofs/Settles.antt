@@ -1,6 +1,6 @@
 -- The edits of a block and of its halves are those of its plan.
 use Rattle.std.proofs.Common.{◌≡◌, ℕ, Bool, true, false, cond, List, [], ◌∷◌, ◌++◌, Option, Some, sym, ap, ap₂, ◌∙◌, append_assoc, append-nil, Result, Ok, Err, OnOk}
-use Rattle.nearest_table.specs.Hops.{Hops, first, wants}
+use Rattle.least_table.specs.BestHops.{Hops, first, wants}
 use Rattle.nearest_table.specs.Plans.{Tree, Fork, edits_of}
 use Rattle.least_table.specs.Trees.{inside, within}
 use Rattle.nearest_table.specs.Settled.{passed_on, settled}

@@ -1,6 +1,6 @@
 -- Plans of blocks by those of their halves.
 use Rattle.std.proofs.Common.{◌≡◌, ℕ, suc, Bool, true, false, List, [], ◌∷◌, length, IfSome, Option, Some, None, refl, sym, ap, ◌∙◌, subst, arith}
-use Rattle.nearest_table.specs.Hops.{Any, Of, AreMerged}
+use Rattle.least_table.specs.BestHops.{Any, Of, AreMerged}
 use Rattle.nearest_table.specs.InnerPlans.{IsFork, IsJoined, OfHalves, tree_of}
 use Rattle.nearest_table.specs.Plans.{Stay, best, IsPlan}
 use Rattle.nearest_table.specs.Blocks.{Covers}

@@ -4,20 +4,20 @@ use Rattle.std.proofs.lemmas.List.Elements.{filter-append}
 use Rattle.nearest_table.specs.Edits.{AreEdits, blocks, installed_in, removed_in}
 use Rattle.least_table.specs.InnerOrders.{ComesBeforeAll, IsInOrder}
 use Rattle.least_table.specs.HopSets.{same_hop, holds, first_of}
-use Rattle.nearest_table.specs.Hops.{Hops, Any, Of, wants, first}
+use Rattle.least_table.specs.BestHops.{Hops, Any, Of, wants, first}
 use Rattle.nearest_table.specs.Laws.{EditsLaw}
-use Rattle.nearest_table.specs.Nearest.{has, missing, stores, surplus}
+use Rattle.least_table.specs.Nearest.{has, missing, stores, surplus}
 use Rattle.nearest_table.specs.Plans.{Tree, Stay, Fork, Held, best, IsPlan, edits_of, new_table}
 use Rattle.least_table.specs.Trees.{inside}
 use Rattle.least_table.specs.Tables.{IsTable, half, half_of, own}
-use Rattle.nearest_table.specs.Blocks.{bare, whole, with_own}
-use Rattle.nearest_table.proofs.Distances.{has-half, has-own, is_own, one_own, stores-half, stores-own}
+use Rattle.least_table.specs.Wholes.{bare, whole, with_own}
+use Rattle.least_table.proofs.Distances.{has-half, has-own, is_own, stores-half, stores-own}
 use Rattle.least_table.proofs.Sets.{same_hop-refl, same_hop-true}
 use Rattle.least_table.proofs.Split.{joined, half-joined, IsTable-half}
-use Rattle.nearest_table.proofs.Owns.{own-bare, half-bare, own-with, half-with, IsTable-bare}
-use Rattle.nearest_table.proofs.Locals.{distance-self}
-use Rattle.nearest_table.proofs.Merges.{first-wanted}
-use Rattle.nearest_table.proofs.Trees.{Best-plan, own_covers, plain}
+use Rattle.least_table.proofs.Owns.{own-bare, half-bare, own-with, half-with, IsTable-bare}
+use Rattle.least_table.proofs.Makes.{distance-self, own_covers}
+use Rattle.least_table.proofs.Merges.{first-wanted}
+use Rattle.nearest_table.proofs.Trees.{Best-plan, plain}
 
 -- ---- tables in order
 
@@ -171,14 +171,14 @@ edits-joined t l r es fs split a b = record {
 -- a route is installed in a block that had none
 edits-new : (w : ℕ) (t u : List (List Bool × Option ℕ)) (k : Option ℕ) (es : List (List Bool × Option (Option ℕ))) → IsTable w t → own t ≡ None → AreEdits t u es → AreEdits t (([], k) ∷ u) (([], Some k) ∷ es)
 edits-new w t u k es table e a = record {
-  installs = ap (λ us. ([], k) ∷ us) a.installs ∙ ap (λ v. cond (not v) (([], k) ∷ missing t u) (missing t u)) (sym (has-own t k (one_own w t table) ∙ ap (λ o. is_own o k) e));
+  installs = ap (λ us. ([], k) ∷ us) a.installs ∙ ap (λ v. cond (not v) (([], k) ∷ missing t u) (missing t u)) (sym (has-own w t k table ∙ ap (λ o. is_own o k) e));
   removes = a.removes ∙ ap blocks (sym (surplus-with (Some k) t u e));
 }
 
 -- the edits beside a route that stays
 module _ (w : ℕ) (t u : List (List Bool × Option ℕ)) (k : Option ℕ) (es : List (List Bool × Option (Option ℕ))) (table : IsTable w t) (held : own t ≡ Some k) (first : t ≡ ([], k) ∷ bare t) (none : own u ≡ None) (a : AreEdits (bare t) u es) where
   installs : (o : Option (Option ℕ)) (v : Bool) (j : Option ℕ) → o ≡ Some j → same_hop k j ≡ v → missing t (with_own o u) ≡ cond (not v) (([], j) ∷ installed_in es) (installed_in es)
-  installs o v j e f = ap (λ p. missing t (with_own p u)) e ∙ ap₂ (λ b us. cond (not b) (([], j) ∷ us) us) (has-own t j (one_own w t table) ∙ ap (λ p. is_own p j) held ∙ f) (missing-bare t u none ∙ sym a.installs)
+  installs o v j e f = ap (λ p. missing t (with_own p u)) e ∙ ap₂ (λ b us. cond (not b) (([], j) ∷ us) us) (has-own w t j table ∙ ap (λ p. is_own p j) held ∙ f) (missing-bare t u none ∙ sym a.installs)
 
   leaves : (o : Option (Option ℕ)) → surplus t (with_own o u) ≡ cond (not (is_some o)) (([], k) ∷ surplus (bare t) u) (surplus (bare t) u)
   leaves o = ap (λ v. surplus v (with_own o u)) first ∙ ap₂ (λ v us. cond (not v) (([], k) ∷ us) us) (stores-own (with_own o u) ∙ ap is_some (own-with o u none)) (surplus-with o (bare t) u (own-bare t))

@@ -2,8 +2,9 @@
 use Rattle.std.specs.Prelude.{◌≡◌, ℕ, Bool, true, cond, List, [], ◌∷◌, length, filter, nat_lt, Option, Some, None, ⊤, ◌↔◌}
 use Rattle.ipnet_blocks.specs.BitStrings.{begins}
 use Rattle.least_table.specs.Tables.{longest, own}
-use Rattle.nearest_table.specs.Blocks.{around, bare, inner}
-use Rattle.nearest_table.specs.Nearest.{same_string}
+use Rattle.least_table.specs.Wholes.{bare}
+use Rattle.nearest_table.specs.Blocks.{around, inner}
+use Rattle.least_table.specs.Nearest.{same_string}
 
 -- the hop of the route of a block, if there is one
 abbrev pub at : List (List Bool × Option ℕ) → List Bool → Option (Option ℕ)

@@ -1,13 +1,7 @@
 -- The routes inside a block, and those around it.
-use Rattle.std.specs.Prelude.{◌≡◌, ◌≢◌, ℕ, Bool, true, false, List, [], ◌∷◌, ◌++◌, length, Option, Some, None}
+use Rattle.std.specs.Prelude.{◌≡◌, ◌≢◌, ℕ, Bool, true, false, List, [], ◌∷◌, length, Option, Some, None}
 use Rattle.least_table.specs.Tables.{half, longest, own, passed}
-use Rattle.least_table.specs.Trees.{inside}
-
--- the routes without that of the whole block
-abbrev pub bare : List (List Bool × Option ℕ) → List (List Bool × Option ℕ)
-bare [] = []
-bare (([], k) ∷ t) = bare t
-bare ((b ∷ c, k) ∷ t) = (b ∷ c, k) ∷ bare t
+use Rattle.least_table.specs.Wholes.{whole}
 
 -- each address has a route
 abbrev pub Covers : ℕ → List (List Bool × Option ℕ) → Type 0
@@ -37,15 +31,6 @@ innermost o (Some k) = Some k
 abbrev pub around : List Bool → Option (Option ℕ) → List (List Bool × Option ℕ) → Option (Option ℕ)
 around [] o t = o
 around (b ∷ ds) o t = around ds (innermost o (own t)) (half t b)
-
--- a table with this route of the whole block, or with none
-abbrev pub with_own : Option (Option ℕ) → List (List Bool × Option ℕ) → List (List Bool × Option ℕ)
-with_own None t = t
-with_own (Some k) t = ([], k) ∷ t
-
--- the table with this route of the whole block, if any, and these tables of the halves
-abbrev pub whole : Option (Option ℕ) → List (List Bool × Option ℕ) → List (List Bool × Option ℕ) → List (List Bool × Option ℕ)
-whole o l r = with_own o (inside false l ++ inside true r)
 
 -- the table with the routes u in place of those inside the block ds
 abbrev pub put : List Bool → List (List Bool × Option ℕ) → List (List Bool × Option ℕ) → List (List Bool × Option ℕ)

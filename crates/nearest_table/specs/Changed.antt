@@ -4,7 +4,7 @@ use Rattle.ipnet_blocks.specs.BitStrings.{begins}
 use Rattle.least_table.specs.InnerOrders.{IsInOrder}
 use Rattle.least_table.specs.Tables.{longest}
 use Rattle.nearest_table.specs.Edits.{AreEdits}
-use Rattle.nearest_table.specs.Nearest.{IsNearest}
+use Rattle.least_table.specs.Nearest.{IsNearest}
 use Rattle.nearest_table.specs.Told.{told_hop}
 
 -- no change contains an address outside the block

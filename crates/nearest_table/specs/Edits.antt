@@ -1,6 +1,6 @@
 -- Edits of a table: each installs a route of a block, or removes that of a block.
 use Rattle.std.specs.Prelude.{◌≡◌, ℕ, Bool, List, [], ◌∷◌, Option, Some, None}
-use Rattle.nearest_table.specs.Nearest.{missing, surplus}
+use Rattle.least_table.specs.Nearest.{missing, surplus}
 
 -- the routes that are installed
 abbrev pub installed_in : List (List Bool × Option (Option ℕ)) → List (List Bool × Option ℕ)

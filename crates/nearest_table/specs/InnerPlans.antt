@@ -1,8 +1,9 @@
 -- Plans of blocks, as the code stores them.
 use Rattle.std.specs.Prelude.{◌≡◌, ℕ, suc, Bool, true, false, List, [], ◌∷◌, Option, Some, None, ⊤}
 use Rattle.least_table.specs.Tables.{IsTable, half, half_of, own}
-use Rattle.nearest_table.specs.Blocks.{bare, innermost}
-use Rattle.nearest_table.specs.Hops.{AreMerged, Any, Of}
+use Rattle.least_table.specs.Wholes.{bare}
+use Rattle.nearest_table.specs.Blocks.{innermost}
+use Rattle.least_table.specs.BestHops.{AreMerged, Any, Of}
 use Rattle.nearest_table.specs.Plans.{Tree, IsPlan, best}
 use Rattle.nearest_table.specs.Plans as trees
 use Rattle.nearest_table.specs.Told.{new_hop}

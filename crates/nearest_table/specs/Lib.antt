@@ -1,6 +1,4 @@
 pub mod Blocks
-pub mod Nearest
-pub mod Hops
 pub mod Plans
 pub mod Edits
 pub mod Told

@@ -2,8 +2,9 @@
 use Rattle.std.specs.Prelude.{◌≡◌, ℕ, suc, Bool, true, false, cond, List, [], ◌∷◌, ◌++◌, length, Option, Some, None}
 use Rattle.least_table.specs.Tables.{half, half_of, hop_under, longest, own}
 use Rattle.least_table.specs.Trees.{inside}
-use Rattle.nearest_table.specs.Blocks.{Covers, bare}
-use Rattle.nearest_table.specs.Hops.{Hops, Any, Of, AreMerged, first, wants}
+use Rattle.least_table.specs.Wholes.{bare}
+use Rattle.nearest_table.specs.Blocks.{Covers}
+use Rattle.least_table.specs.BestHops.{Hops, Any, Of, AreMerged, first, wants}
 
 -- A block whose installed routes stay, and its best inherited hops; a block without a route that is cut into halves, and its best
 -- inherited hops; and a block with a route of this hop, and its plan without this route.

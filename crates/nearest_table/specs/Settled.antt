@@ -1,6 +1,6 @@
 -- The edit of a block itself, and what its halves inherit then.
 use Rattle.std.specs.Prelude.{ℕ, Bool, cond, List, [], ◌∷◌, Option, Some, None}
-use Rattle.nearest_table.specs.Hops.{Hops, first, wants}
+use Rattle.least_table.specs.BestHops.{Hops, first, wants}
 
 -- what the halves of a block inherit that has these best hops, no route, and inherits s
 abbrev pub passed_on : Hops → Option ℕ → Option ℕ

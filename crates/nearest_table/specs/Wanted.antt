@@ -3,7 +3,7 @@ use Rattle.std.specs.Prelude.{ℕ, List, Option, Some, None, ⊤}
 use Rattle.std.specs.Borrow.{Bor}
 use Rattle.least_table.specs.InnerHops.{members}
 use Rattle.least_table.specs.InnerRising.{IsRising}
-use Rattle.nearest_table.specs.Hops.{Hops, Any, Of}
+use Rattle.least_table.specs.BestHops.{Hops, Any, Of}
 use Rattle.nearest_table.specs.declared.hops.Wanted.{Wanted}
 use Rattle.nearest_table.specs.declared.hops.Wanted.TheVariants as wanted
 

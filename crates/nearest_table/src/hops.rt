@@ -1,7 +1,7 @@
 //! The best inherited hops of a block: any hop, or those of an ascending list.
 ghost use Rattle.std.specs.Prelude.{◌≡◌, IfOk};
 ghost use Rattle.least_table.specs.InnerHops.{members};
-ghost use Rattle.nearest_table.specs.Hops.{AreMerged, wants, first};
+ghost use Rattle.least_table.specs.BestHops.{AreMerged, wants, first};
 ghost use Rattle.nearest_table.specs.Wanted.{Rises, hops_from, hops_of};
 
 use least_table::hops::{self, Hops};

@@ -2,7 +2,6 @@
 ghost use Rattle.std.specs.Prelude.{◌≡◌, ◌-◌, ◌+◌, ◌≤◌, ◌++◌, ℕ, length, IfOk, IfSome, MatchOption, OnOk};
 ghost use Rattle.nearest_table.specs.Changed.{AreInside, MakeNearest};
 ghost use Rattle.least_table.specs.InnerOrders.{IsInOrder};
-ghost use Rattle.nearest_table.specs.Hops.{AreMerged, first, wants};
 ghost use Rattle.nearest_table.specs.InnerPlans.{Fits, HasMore, IsFork, IsTold, IsJoined, Plans, owned_tree, tree_of};
 ghost use Rattle.nearest_table.specs.Plans.{IsPlan, best, edits_of};
 ghost use Rattle.nearest_table.specs.Settled.{passed_by, passed_on, settled, settled_held};

@@ -1,7 +1,8 @@
 //! Tables of routes, as searches of blocks see them.
 ghost use Rattle.std.specs.Prelude.{◌≡◌, ◌-◌, ℕ, ◌≤◌, List, [], Bool, Option, None, length, true, ◌↔◌};
 ghost use Rattle.least_table.specs.Tables.{IsTable, own};
-ghost use Rattle.nearest_table.specs.Blocks.{bare, inner, around, IsCovered};
+ghost use Rattle.least_table.specs.Wholes.{bare};
+ghost use Rattle.nearest_table.specs.Blocks.{inner, around, IsCovered};
 
 use trie_core::Path;
 

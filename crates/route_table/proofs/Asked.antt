@@ -13,8 +13,9 @@ use Rattle.ipnet_blocks.specs.BitStrings.{begins, bits_cmp}
 use Rattle.ipnet_blocks.proofs.BitStrings.{begins_on, begins_take, take_begins}
 use Rattle.least_table.specs.Tables.{longer, longest, own}
 use Rattle.nearest_table.specs.Asked.{NoneInside, at, hop_if, shorter}
-use Rattle.nearest_table.specs.Blocks.{around, bare, inner}
-use Rattle.nearest_table.specs.Nearest.{same_string}
+use Rattle.least_table.specs.Wholes.{bare}
+use Rattle.nearest_table.specs.Blocks.{around, inner}
+use Rattle.least_table.specs.Nearest.{same_string}
 use Rattle.nearest_table.proofs.Asked.{asked_law}
 use Rattle.route_choices.specs.Choices.{Choice, best_hop}
 use Rattle.route_choices.specs.Hops.{number_of}

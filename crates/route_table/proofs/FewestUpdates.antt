@@ -10,7 +10,7 @@ use Rattle.least_table.specs.InnerOrders.{IsInOrder}
 use Rattle.least_table.specs.Tables as bits
 use Rattle.nearest_table.specs.Changed.{MakeNearest}
 use Rattle.nearest_table.specs.Edits.{AreEdits, blocks, installed_in}
-use Rattle.nearest_table.specs.Nearest as near
+use Rattle.least_table.specs.Nearest as near
 use Rattle.nearest_table.specs.Told.{told_hop}
 use Rattle.route_choices.specs.Hops.{IsHop}
 use Rattle.route_choices.proofs.Kept.{In-from_filter, In-map, map_append}

@@ -10,7 +10,7 @@ use Rattle.least_table.specs.InnerOrders.{IsInOrder}
 use Rattle.least_table.specs.Tables as bits
 use Rattle.least_table.proofs.Sets.{same_hop-true}
 use Rattle.nearest_table.specs.Edits.{AreEdits, blocks, installed_in}
-use Rattle.nearest_table.specs.Nearest as near
+use Rattle.least_table.specs.Nearest as near
 use Rattle.route_choices.specs.Hops.{IsHop, number_of}
 use Rattle.route_choices.proofs.Kept.{In-filter, In-from_filter, In-map, filter_map_swap, map_In, same_kept}
 use Rattle.route_laws.specs.Operations.{Operation, Remove, is_held, removes, same_route}

@@ -13,7 +13,7 @@ use Rattle.ipnet_blocks.proofs.BlockTests.{same_from_test, test_from_same}
 use Rattle.ipnet_blocks.proofs.Search.{whole_is_block, inside_whole}
 use Rattle.least_table.specs.HopSets as hops
 use Rattle.least_table.proofs.Sets.{same_hop-refl}
-use Rattle.nearest_table.specs.Nearest as near
+use Rattle.least_table.specs.Nearest as near
 use Rattle.route_choices.proofs.Kept.{In-filter, In-from_filter, In-map, all_kept, filter_map_swap, map_In, none_kept, same_kept}
 use Rattle.route_laws.specs.Operations.{Install, Remove, between, installs, is_held, missing, removes, same_route, surplus}
 use Rattle.route_laws.specs.Tables.{Route, IsTable, is_stored}

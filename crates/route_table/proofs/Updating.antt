@@ -14,7 +14,7 @@ use Rattle.ipnet.specs.declared.ip_net.IpNet.{IpNet}
 use Rattle.least_table.specs.Tables.{IsTable}
 use Rattle.nearest_table.specs.Changed.{AreInside, MakeNearest}
 use Rattle.nearest_table.specs.Edits.{blocks, installed_in, removed_in}
-use Rattle.nearest_table.specs.Nearest.{has, stores, surplus}
+use Rattle.least_table.specs.Nearest.{has, stores, surplus}
 use Rattle.prefix_trie.proofs.Covered.{begins_through}
 use Rattle.route_choices.specs.Choices.{default_preference}
 use Rattle.route_choices.specs.Hops.{IsHop, hop_from}

@@ -1,5 +1,5 @@
 use Rattle.std.proofs.Common.{None, sym, ◌∙◌, subst}
-use Rattle.nearest_table.specs.Nearest.{IsFewest}
+use Rattle.least_table.specs.Nearest.{IsFewest}
 use Rattle.nearest_table.specs.Told.{told_hop}
 use Rattle.embedder.proofs.Edits.{fewest}
 use Rattle.embedder.proofs.nearest.needed.Goals as goal

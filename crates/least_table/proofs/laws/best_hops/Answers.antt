@@ -1,4 +1,4 @@
-use Rattle.least_table.proofs.Sets.{sets_law}
+use Rattle.least_table.proofs.Merges.{sets_law}
 use Rattle.least_table.proofs.Chains.{chain_law}
 use Rattle.least_table.proofs.laws.best_hops.Goals as goal
 

@@ -1,5 +1,5 @@
 use Rattle.std.proofs.Common.{◌-◌, ◌∷◌, [], subst}
-use Rattle.least_table.specs.HopSets.{AreMerged}
+use Rattle.least_table.specs.BestHops.{Of, AreMerged}
 use Rattle.least_table.specs.InnerHops.{members}
 use Rattle.least_table.specs.InnerPacked.{Grows, best_at}
 use Rattle.least_table.specs.InnerSteps.{Fork}
@@ -10,5 +10,5 @@ use Rattle.least_table.proofs.plan.Steps.fork.Goals as goal
 pub returns : goal.returns
 returns c = if_ok_map c.push_fork.result
     (λ _ grows xs ys p q held rising ends. fork_ends c.args.low xs ys p q c.args.self.now held ends (members c.in_ok-hops.hops) c.push_fork.new.self
-    (subst (λ n. AreMerged (best_at c.args.self.now c.args.low) (best_at c.args.self.now (n - 1)) (members c.in_ok-hops.hops)) c.len-high.ensures c.in_ok-hops.ensures.merged) c.in_ok-hops.ensures.rising
+    (subst (λ n. AreMerged (Of (best_at c.args.self.now c.args.low)) (Of (best_at c.args.self.now (n - 1))) (Of (members c.in_ok-hops.hops))) c.len-high.ensures c.in_ok-hops.ensures.merged) c.in_ok-hops.ensures.rising
     (subst (λ ks. Grows c.args.self.now c.push_fork.new.self (Fork ks ∷ [])) c.as_slice.ensures grows)) c.push_fork.ensures

@@ -1,5 +1,5 @@
 use Rattle.std.proofs.Common.{◌∙◌, sym, subst, IfOk}
-use Rattle.least_table.specs.HopSets.{AreMerged}
+use Rattle.least_table.specs.BestHops.{Of, AreMerged}
 use Rattle.least_table.specs.InnerHops.{members}
 use Rattle.least_table.specs.InnerRising.{IsRising}
 use Rattle.least_table.specs.InnerPacked.{best_at}
@@ -24,5 +24,5 @@ pub returns-clause-merged : goal.returns-clause-merged
 returns-clause-merged c =
     let low = best_read c.args.self.now c.args.low c.get.result.now c.requires.low c.get.ensures c.as_slice.result.now (c.as_slice.ensures ∙ c.best-below.ensures) in
     let high = best_read c.args.self.now c.args.high c.get-2.result.now c.requires.high c.get-2.ensures c.as_slice-2.result.now (c.as_slice-2.ensures ∙ c.best-above.ensures) in
-    subst (λ ks. IfOk c.merge.result (λ hops. AreMerged ks (best_at c.args.self.now c.args.high) (members hops))) low
-    (subst (λ ks. IfOk c.merge.result (λ hops. AreMerged c.as_slice.result.now ks (members hops))) high c.merge.ensures.merged)
+    subst (λ ks. IfOk c.merge.result (λ hops. AreMerged (Of ks) (Of (best_at c.args.self.now c.args.high)) (Of (members hops)))) low
+    (subst (λ ks. IfOk c.merge.result (λ hops. AreMerged (Of c.as_slice.result.now) (Of ks) (Of (members hops)))) high c.merge.ensures.merged)

@@ -1,5 +1,6 @@
 use Rattle.std.proofs.Common.{◌∙◌, ◌∷◌, [], ap, subst, sym}
-use Rattle.least_table.specs.HopSets.{AreMerged, holds}
+use Rattle.least_table.specs.BestHops.{Of, AreMerged}
+use Rattle.least_table.specs.HopSets.{holds}
 use Rattle.least_table.specs.InnerHops.{members}
 use Rattle.least_table.specs.InnerPacked.{Grows, step_of}
 use Rattle.least_table.specs.InnerRising.{IsRising}
@@ -54,5 +55,5 @@ returns c =
     (λ _ grows xs p ends.
     let s = last_step xs p c.args.self.now ends e.0 c.in-Some.last.now e.1 in
     beside_ends c.args.is_upper c.args.hop xs p c.args.self.now c.push_half.new.self ends (members c.in_ok-hops.hops)
-    (subst (λ ks. AreMerged (c.args.hop ∷ []) ks (members c.in_ok-hops.hops)) (c.as_slice-2.ensures ∙ c.best-best.ensures ∙ ap step_best s) c.in_ok-hops.ensures.merged) c.in_ok-hops.ensures.rising
+    (subst (λ ks. AreMerged (Of (c.args.hop ∷ [])) (Of ks) (Of (members c.in_ok-hops.hops))) (c.as_slice-2.ensures ∙ c.best-best.ensures ∙ ap step_best s) c.in_ok-hops.ensures.merged) c.in_ok-hops.ensures.rising
     (subst (λ ks. Grows c.args.self.now c.push_half.new.self (Half c.args.is_upper c.args.hop ks ∷ [])) c.as_slice-3.ensures grows)) c.push_half.ensures

@@ -1,5 +1,6 @@
 use Rattle.std.proofs.Common.{◌≡◌, ◌↔◌, [], List, Bool, IsTrue, subst}
-use Rattle.nearest_table.specs.Blocks.{bare, inner}
+use Rattle.least_table.specs.Wholes.{bare}
+use Rattle.nearest_table.specs.Blocks.{inner}
 use Rattle.route_laws.specs.Networks.{Stored, routes_of}
 use Rattle.route_table.specs.InnerLeast.{entries_of}
 use Rattle.route_table.proofs.Asked.{leaf_found}

@@ -1,7 +1,7 @@
 -- The best inherited hops of a block: any hop, or those of a list.
 use Rattle.std.specs.Prelude.{◌≡◌, ℕ, ◌+◌, Bool, true, cond, ◌&&◌, ◌||◌, List, Option, None}
 use Rattle.least_table.specs.HopSets.{holds, meets, first_of, fee}
-use Rattle.nearest_table.specs.Nearest.{IsFewest}
+use Rattle.least_table.specs.Nearest.{IsFewest}
 
 -- any hop or none, or the hops of a list
 pub data Hops : Type 0 where

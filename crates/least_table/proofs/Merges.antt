@@ -2,11 +2,11 @@
 use Rattle.std.proofs.Common.{◌≡◌, ℕ, suc, ◌+◌, ◌≤◌, Bool, true, false, cond, ◌&&◌, ◌||◌, List, Option, None, refl, sym, ap, ◌∙◌, subst, arith, inl, inr, add-one, ⊎_elim}
 use Rattle.std.proofs.lemmas.Bool.{cases_Bool}
 use Rattle.least_table.specs.HopSets.{fee}
-use Rattle.nearest_table.specs.Hops.{Hops, Any, Of, wants, first, agree, AreMerged, AreBest}
+use Rattle.least_table.specs.BestHops.{Hops, Any, Of, wants, first, agree, AreMerged, AreBest}
 use Rattle.ipnet_blocks.specs.Halves.{IsLesser}
-use Rattle.nearest_table.specs.Laws.{SetsLaw}
+use Rattle.least_table.specs.Laws.{SetsLaw}
 use Rattle.least_table.specs.Tables.{IsTable, half, half_of, own, passed}
-use Rattle.nearest_table.proofs.Halves.{from_lesser}
+use Rattle.least_table.proofs.Halves.{from_lesser}
 use Rattle.least_table.proofs.Sets.{meets-true, meets-false, first_of-holds}
 
 -- the two have a hop in common

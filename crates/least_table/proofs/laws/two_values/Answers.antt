@@ -1,5 +1,5 @@
-use Rattle.nearest_table.proofs.Owns.{own_law, two_values_law}
-use Rattle.nearest_table.proofs.laws.two_values.Goals as goal
+use Rattle.least_table.proofs.Owns.{own_law, two_values_law}
+use Rattle.least_table.proofs.laws.two_values.Goals as goal
 
 pub returns-clause-two : goal.returns-clause-two
 returns-clause-two c = two_values_law

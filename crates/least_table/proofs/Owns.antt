@@ -1,12 +1,12 @@
 -- The route of a block itself: its operation, and that a block with one needs the same operations whatever it inherits.
 use Rattle.std.proofs.Common.{◌≡◌, ℕ, ◌+◌, ◌≤◌, Bool, true, false, List, [], ◌∷◌, Option, Some, None, refl, sym, ap, ap₂, ◌∙◌, subst, arith, inl, inr, ◌⊎◌, ⊎_elim}
 use Rattle.least_table.specs.Tables.{Absent, IsTable, hop_under, Gives, half, own, passed}
-use Rattle.nearest_table.specs.Blocks.{bare, with_own}
-use Rattle.nearest_table.specs.Nearest.{IsFewest, distance}
-use Rattle.nearest_table.specs.Laws.{OwnLaw, TwoValuesLaw}
-use Rattle.nearest_table.proofs.Distances.{change, distance-halves}
+use Rattle.least_table.specs.Wholes.{bare, with_own}
+use Rattle.least_table.specs.Nearest.{IsFewest, distance}
+use Rattle.least_table.specs.Laws.{OwnLaw, TwoValuesLaw}
+use Rattle.least_table.proofs.Distances.{change, distance-halves}
 use Rattle.least_table.proofs.Split.{hop-half}
-use Rattle.nearest_table.proofs.Halves.{change_same, change_one, change_cases, hop-empty}
+use Rattle.least_table.proofs.Halves.{change_same, change_one, change_cases, hop-empty}
 
 -- ---- a table without the route of the whole block
 
