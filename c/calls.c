@@ -142,6 +142,22 @@ static void has_hops(routes_index *index) {
     }
 }
 
+/* Another handle of an index has the same hops, also after the first is closed. Without an index it stays closed. */
+static void shared(routes_table *t) {
+    routes_index index = ROUTES_INDEX, other = ROUTES_INDEX, third = ROUTES_INDEX;
+    CHECK(routes_index_share(&other, &index) == ROUTES_CLOSED && !other.is_open && !index.is_open);
+    CHECK(routes_index_share(&other, (routes_index *)t) == ROUTES_CLOSED && !other.is_open && t->is_open);
+    CHECK(routes_index_open(&index, t) == ROUTES_OK && routes_index_share(&other, &index) == ROUTES_OK);
+    CHECK(routes_index_share(&other, &index) == ROUTES_OPEN && routes_index_share(&third, &other) == ROUTES_OK);
+    has_hops(&index);
+    routes_index_close(&index);
+    has_hops(&other);
+    routes_index_close(&other);
+    CHECK(other.at == NULL && !other.is_open && routes_index_share(&index, &other) == ROUTES_CLOSED);
+    has_hops(&third);
+    routes_index_close(&third);
+}
+
 /* An index is a snapshot: a change of the table does not reach it. A closed index returns nothing. */
 static void copied(routes_table *t) {
     static routes_index index = ROUTES_INDEX;
@@ -163,6 +179,7 @@ static void copied(routes_table *t) {
     routes_index_close(&index);
     CHECK(index.at == NULL && !index.is_open);
     routes_index_close(&index);
+    shared(t);
 }
 
 /* The count of networks of each family is right. */
@@ -210,6 +227,23 @@ static void changed(routes_table *t) {
     looked_up(t, k.family, addr ^ ((number)(drawn() & 0xff) << (width(k.family) - 20)));
 }
 
+/* The flat list, copied in parts of 7, is that which is read by index. The room after its end is unchanged. */
+static void pieces_read(routes_table *t, size_t length) {
+    routes_piece p, part[7];
+    size_t from = 0, got;
+    do {
+        memset(part, 0x5a, sizeof part);
+        got = routes_read_pieces(t, from, part, 7);
+        CHECK(got == (length - from < 7 ? length - from : 7));
+        for (size_t i = 0; i < 7; i++) {
+            if (i >= got) CHECK(part[i].hop == 0x5a5a5a5a);
+            else CHECK(routes_piece_at(t, from + i, &p) == ROUTES_OK && p.high == part[i].high && p.low == part[i].low && p.hop == part[i].hop);
+        }
+        from += got;
+    } while (got > 0);
+    CHECK(from == length && routes_read_pieces(t, SIZE_MAX, part, 7) == 0);
+}
+
 /* The blocks of the flat list ascend, and have the hops of the model. The list is unchanged until it is made again. */
 static void listed(routes_table *t) {
     routes_piece p, last = {0, 0, 0, 0, 0};
@@ -224,6 +258,7 @@ static void listed(routes_table *t) {
     }
     memset(&p, 0x5a, sizeof p);
     CHECK(routes_piece_at(t, pieces, &p) == ROUTES_MISSING && p.hop == 0x5a5a5a5a);
+    pieces_read(t, pieces);
     for (int i = 0; i < 50; i++) {
         const struct kept *k = count ? &kept[drawn() % count] : NULL;
         if (!k) break;
@@ -479,6 +514,7 @@ static void followed(routes_table *t) {
     memset(&p, 0x5a, sizeof p);
     q = p;
     CHECK(follow(&f, "ok") == ROUTES_CLOSED && routes_follower_piece_at(&f, 0, &p) == ROUTES_CLOSED);
+    CHECK(routes_follower_read_pieces(&f, 0, &p, 1) == 0);
     tells_nothing(&f, ROUTES_CLOSED);
     CHECK(routes_follower_index(&index, &f) == ROUTES_CLOSED && !index.is_open && memcmp(&p, &q, sizeof p) == 0);
     CHECK(routes_follower_open(&f) == ROUTES_OK && routes_follower_open(&f) == ROUTES_OPEN);
@@ -498,7 +534,8 @@ static void followed(routes_table *t) {
         CHECK(routes_piece_at(t, i, &p) == ROUTES_OK && routes_follower_piece_at(&f, i, &q) == ROUTES_OK);
         CHECK(p.family == q.family && p.len == q.len && p.high == q.high && p.low == q.low && p.hop == q.hop);
     }
-    CHECK(routes_follower_piece_at(&f, pieces, &q) == ROUTES_MISSING);
+    CHECK(routes_follower_piece_at(&f, pieces, &q) == ROUTES_MISSING && routes_follower_read_pieces(&f, pieces, &q, 1) == 0);
+    if (pieces > 0) CHECK(routes_follower_read_pieces(&f, pieces - 1, &q, 1) == 1 && q.low == p.low && q.len == p.len && q.hop == p.hop);
     has_hops(&index);
     tells_hops(&f);
     tells_least(t, &f);
@@ -530,7 +567,7 @@ static void answers_closed(routes_table *t) {
     CHECK(routes_count(t, &ipv4, &ipv6) == ROUTES_CLOSED && ipv4 == 77 && ipv6 == 78);
     CHECK(routes_add4(t, 1, 8, 1, 1, &c) == ROUTES_CLOSED && routes_add6(t, 1, 1, 8, 1, 1, &c) == ROUTES_CLOSED);
     CHECK(routes_del4(t, 1, 8, 1, &c) == ROUTES_CLOSED && routes_del6(t, 1, 1, 8, 1, &c) == ROUTES_CLOSED);
-    CHECK(routes_flat(t) == ROUTES_CLOSED && routes_piece_at(t, 0, &p) == ROUTES_CLOSED);
+    CHECK(routes_flat(t) == ROUTES_CLOSED && routes_piece_at(t, 0, &p) == ROUTES_CLOSED && routes_read_pieces(t, 0, &p, 1) == 0);
     for (int kind = LIST; kind <= GOVERNED; kind++)
         CHECK(list4(t, kind, 1, 8, 1) == ROUTES_CLOSED && list6(t, kind, 1, 1, 8, 1) == ROUTES_CLOSED);
     CHECK(routes_own(t, 1) == ROUTES_CLOSED && routes_least(t) == ROUTES_CLOSED);

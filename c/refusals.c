@@ -85,6 +85,21 @@ static void listed(routes_table *t) {
     }
 }
 
+/* Another handle of an index: if an allocation fails, it stays closed, and the next try opens it. */
+static void shared(routes_index *index) {
+    routes_index other = ROUTES_INDEX;
+    uint64_t hop = 77, same = 78;
+    uint32_t code = routes_index_share(&other, index);
+    if (code == ROUTES_NO_MEMORY) {
+        refused++;
+        WANT(other.at == NULL && !other.is_open);
+        code = routes_index_share(&other, index);
+    }
+    WANT(code == ROUTES_OK && routes_index_hop4(&other, addr_of(1), &hop) == ROUTES_OK);
+    routes_index_close(&other);
+    WANT(routes_index_hop4(index, addr_of(1), &same) == ROUTES_OK && same == hop);
+}
+
 /* An index: if an allocation fails, it stays closed, and the next try opens it. Its lookups do not allocate. */
 static void indexed(routes_table *t) {
     routes_index index = ROUTES_INDEX;
@@ -102,6 +117,7 @@ static void indexed(routes_table *t) {
         WANT(routes_get4(t, addr_of(i), &r) == ROUTES_OK && routes_index_hop4(&index, addr_of(i), &hop) == ROUTES_OK && hop == r.hop);
     }
     WANT(asked == before);
+    shared(&index);
     routes_index_close(&index);
 }
 

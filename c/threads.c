@@ -1,5 +1,6 @@
 /* Handles that move from thread to thread between calls. A table, a follower and an index of them are opened, changed, queried and closed,
- * each time by another thread, while other threads use other handles. */
+ * each time by another thread, while other threads use other handles. Then eight threads look up addresses in one index at the same
+ * time, each by a handle of its own, while another thread replaces it. */
 #include "routes.h"
 #include <pthread.h>
 #include <stdio.h>
@@ -11,6 +12,9 @@
 #endif
 #define THREADS 4
 #define SETS 12
+#define READERS 8
+#define VERSIONS (STEPS / 4)
+#define ADDRS 64
 
 /* A set of handles, which moves from thread to thread. */
 struct set {
@@ -128,6 +132,73 @@ static void *run(void *number) {
     return NULL;
 }
 
+/* The index that is published, in one of two handles, and its version. The lock guards them. */
+static routes_index handles[2] = {ROUTES_INDEX, ROUTES_INDEX}, *published = handles;
+static uint32_t version;
+static pthread_mutex_t publishing = PTHREAD_MUTEX_INITIALIZER;
+
+/* Gives this thread a handle of its own, and returns the version. */
+static uint32_t shared(routes_index *mine) {
+    pthread_mutex_lock(&publishing);
+    WANT(routes_index_share(mine, published) == ROUTES_OK);
+    uint32_t now = version;
+    pthread_mutex_unlock(&publishing);
+    return now;
+}
+
+/* All addresses of an index have its version as their hop. */
+static void looked_up(routes_index *mine, uint32_t now) {
+    uint32_t addrs[ADDRS];
+    uint64_t hops[ADDRS], hop;
+    for (uint32_t i = 0; i < ADDRS; i++) {
+        addrs[i] = 0x0a000000 | i * 0x3ffff;
+        WANT(routes_index_hop4(mine, addrs[i], &hop) == ROUTES_OK && hop == now);
+    }
+    WANT(routes_index_hop4_many(mine, addrs, ADDRS, hops, ADDRS) == ROUTES_OK);
+    for (int i = 0; i < ADDRS; i++) WANT(hops[i] == now);
+}
+
+/* Reads the published index, again and again, until the last version. */
+static void *reads(void *unused) {
+    uint32_t last = 0;
+    while (last < VERSIONS) {
+        routes_index mine = ROUTES_INDEX;
+        uint32_t now = shared(&mine);
+        WANT(now >= last);
+        looked_up(&mine, now);
+        routes_index_close(&mine);
+        last = now;
+    }
+    return unused;
+}
+
+/* Changes the table, makes an index, and publishes it in place of the one before, which readers may still have. */
+static void publish(routes_table *table) {
+    routes_change c;
+    routes_index *old = published, *next = old == handles ? handles + 1 : handles;
+    WANT(version == 0 || routes_del4(table, 0x0a000000, 8, version, &c) == ROUTES_OK);
+    WANT(routes_add4(table, 0x0a000000, 8, version + 1, ROUTES_PREFERENCE, &c) == ROUTES_OK);
+    WANT(routes_index_open(next, table) == ROUTES_OK);
+    pthread_mutex_lock(&publishing);
+    published = next;
+    version++;
+    pthread_mutex_unlock(&publishing);
+    routes_index_close(old);
+}
+
+/* Eight readers of the index that this thread publishes. */
+static void read_by_many(void) {
+    pthread_t threads[READERS];
+    routes_table table = ROUTES_TABLE;
+    WANT(routes_open(&table) == ROUTES_OK);
+    publish(&table);
+    for (int i = 0; i < READERS; i++) WANT(pthread_create(&threads[i], NULL, reads, NULL) == 0);
+    while (version < VERSIONS) publish(&table);
+    for (int i = 0; i < READERS; i++) WANT(pthread_join(threads[i], NULL) == 0);
+    routes_index_close(published);
+    routes_close(&table);
+}
+
 int main(void) {
     pthread_t threads[THREADS];
     int numbers[THREADS];
@@ -141,6 +212,8 @@ int main(void) {
     }
     for (int i = 0; i < THREADS; i++) WANT(pthread_join(threads[i], NULL) == 0);
     WANT(steps == (long)SETS * STEPS);
-    printf("%ld steps of %d sets of handles, each on another of %d threads, no difference\n", steps, SETS, THREADS);
+    read_by_many();
+    printf("%ld steps of %d sets of handles, each on another of %d threads, and %d indexes with %d readers, no difference\n", steps, SETS,
+           THREADS, VERSIONS, READERS);
     return 0;
 }

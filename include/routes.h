@@ -11,7 +11,7 @@
  *      call fails. No two pointers of a call may overlap.
  *   3. Make one call at a time on a table, an index or a follower, lookups included. Any thread may make a call after the
  *      previous one has returned and the threads have synchronized, as by a mutex, a queue or pthread_join. Calls on different
- *      handles may run at the same time.
+ *      handles may run at the same time, also on handles that share one index (routes_index_share).
  *   4. malloc, realloc and free belong to one allocator on all threads, as those of the C library do: memory that one thread
  *      allocated may be freed by another. Make no call in a signal handler, or in the forked child of a process with threads.
  *
@@ -130,6 +130,10 @@ uint32_t routes_flat(routes_table *table);
  * the end of the list, or ROUTES_CLOSED. */
 uint32_t routes_piece_at(routes_table *table, size_t index, routes_piece *piece);
 
+/* Copies this list from index `from` on, as far as there is room. Returns the number of blocks copied: 0 at the end, and for a
+ * closed table. The rest of `pieces` is unchanged. */
+size_t routes_read_pieces(routes_table *table, size_t from, routes_piece *pieces, size_t room);
+
 /* The list of routes, in the table's memory. Each of the calls down to routes_least makes a new list. The list is unchanged until
  * the next of these calls, even if the table changes. routes_route_at and routes_read read it. Each of these calls returns
  * ROUTES_OK, ROUTES_NO_MEMORY, ROUTES_TOO_LONG if it takes a length, or ROUTES_CLOSED.
@@ -198,7 +202,13 @@ typedef struct routes_index {
  * not open, or ROUTES_OPEN if the index is. */
 uint32_t routes_index_open(routes_index *index, routes_table *table);
 
-/* Closes an index, and frees its memory. A closed index stays closed. An index may be opened again. */
+/* Opens a closed index as another handle of the snapshot that `from` has. Copies nothing of the snapshot. Each of the handles is
+ * used and closed by itself, on any thread; give each thread that looks up addresses a handle of its own. Returns ROUTES_OK,
+ * ROUTES_NO_MEMORY, ROUTES_CLOSED if `from` is not open, or ROUTES_OPEN if the index is. */
+uint32_t routes_index_share(routes_index *index, routes_index *from);
+
+/* Closes an index. The last close of the handles that share a snapshot frees its memory. A closed index stays closed. An index
+ * may be opened again. */
 void routes_index_close(routes_index *index);
 
 /* Looks up the hop of an address: a number below 2^32, or ROUTES_DROP for no hop. An address has no hop if no network contains
@@ -241,6 +251,9 @@ uint32_t routes_follower_get6(routes_follower *follower, uint64_t high, uint64_t
  * ROUTES_MISSING past the end of the list, or ROUTES_CLOSED. */
 uint32_t routes_follower_flat(routes_follower *follower);
 uint32_t routes_follower_piece_at(routes_follower *follower, size_t index, routes_piece *piece);
+
+/* Copies this list from index `from` on, as routes_read_pieces does. Returns 0 at the end, and for a closed follower. */
+size_t routes_follower_read_pieces(routes_follower *follower, size_t from, routes_piece *pieces, size_t room);
 
 /* Makes the list of the routes of a smallest table with the same hop at every address, in the follower's memory, as routes_least
  * does. The list is unchanged until the next routes_follower_least, and empty before the first. Returns ROUTES_OK,

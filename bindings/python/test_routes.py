@@ -413,6 +413,32 @@ class Rules(unittest.TestCase):
         with self.assertRaisesRegex(ValueError, "closed"):
             index.hop("::")
 
+    def test_a_shared_index(self):
+        """Threads look up addresses in it at the same time. Each object stays on the thread that calls it first."""
+        with Table() as table, ThreadPoolExecutor(4) as others:
+            table.add("10.0.0.0/8", 1)
+            table.add("2001:db8::/32", 2)
+            addrs = [bytes([10, 0, place % 256, place // 256]) for place in range(20000)] + ["2001:db8::1", "::"]
+            index = Index(table)
+            table.add("10.0.0.0/8", 3, 200)
+            shares = [index.share() for _ in range(8)]
+            for hops in [other.result() for other in [others.submit(share.hops, addrs) for share in shares]]:
+                self.assertEqual(hops, [1] * 20000 + [2, None])
+            index.close()
+            with self.assertRaisesRegex(ValueError, "closed"):
+                index.share()
+            for share in shares:
+                with self.assertRaisesRegex(RuntimeError, "thread"):
+                    share.hop("10.0.0.1")
+
+    def test_the_last_share_is_closed_last(self):
+        with Table() as table:
+            table.add("10.0.0.0/8", 1)
+            with Index(table) as index:
+                share = index.share()
+            with share, share.share() as other:
+                self.assertEqual((share.hop("10.0.0.1"), other.hop("10.0.0.1"), other.hop("::")), (1, 1, None))
+
     def test_a_table_stays_on_its_thread(self):
         with Table() as table, Follower() as follower, Index(table) as index, ThreadPoolExecutor(1) as other:
             for call in (table.flat, table.close, follower.flat, follower.close, index.close, lambda: index.hop("::")):

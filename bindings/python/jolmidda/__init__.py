@@ -26,14 +26,13 @@ from __future__ import annotations
 
 import ctypes
 import ipaddress
-import itertools
 import operator
 import os
 import struct
 import threading
 from array import array
 from ctypes import POINTER, c_bool, c_char, c_char_p, c_size_t, c_uint8, c_uint16, c_uint32, c_uint64, c_void_p
-from typing import Final, Iterable, Literal, NamedTuple, NoReturn, Optional, TypeVar, Union
+from typing import Final, Iterable, Literal, NamedTuple, NoReturn, Optional, Type, TypeVar, Union
 
 __all__ = [
     "Change", "Count", "DROP", "Failed", "FlatArrays", "Follower", "Full", "Index", "PREFERENCE", "Piece", "Route", "Table",
@@ -106,6 +105,7 @@ class _Handle:
 
     _name = ""  # the prefix of the names of the library's calls
     _raw: ctypes.Structure
+    _thread: int
 
     def __init__(self) -> None:
         self._thread = threading.get_ident()
@@ -132,9 +132,10 @@ class _Handle:
         getattr(_library, f"routes_{self._name}close")(self._raw)
 
     def _own(self) -> ctypes.Structure:
-        """The handle, if this is its thread."""
-        if threading.get_ident() != self._thread:
-            raise RuntimeError(f"this {type(self).__name__} stays on the thread that made it")
+        """The handle, if this is its thread. An index that `share` made has none before its first call."""
+        thread = threading.get_ident()
+        if vars(self).setdefault("_thread", thread) != thread:
+            raise RuntimeError(f"this {type(self).__name__} stays on its thread")
         return self._raw
 
     def _call(self, name: str, addr: Address, *rest: object) -> bool:
@@ -146,16 +147,13 @@ class _Handle:
     def _arrays(self) -> FlatArrays:
         """Makes the flat list, and copies it in parts."""
         _is_found(getattr(_library, f"routes_{self._name}flat")(self._own()))
-        piece_at = getattr(_library, f"routes_{self._name}piece_at")
+        read = getattr(_library, f"routes_{self._name}read_pieces")
         arrays = FlatArrays(array("B"), array("Q"), array("Q"), array("B"), array("I"))
         part = (_Piece * 1024)()
-        count = len(part)
         octets = memoryview(part).cast("B")  # of 24 a piece: two numbers of 8, the hop's 4, family, length, and padding
         halves, hops = octets.cast("Q"), octets.cast("I")
         columns = octets[20::24], halves[::3], halves[1::3], octets[21::24], hops[4::6]
-        while count == len(part):
-            answers = map(piece_at, itertools.repeat(self._raw), itertools.count(len(arrays.hop)), part)
-            count = len(list(itertools.takewhile(_is_found, answers)))
+        while count := read(self._raw, len(arrays.hop), part, len(part)):
             for items, column in zip(arrays, columns):
                 items.frombytes(column[:count].tobytes())
         return arrays
@@ -329,6 +327,16 @@ class Index(_Handle):
         """Returns the hops of the addresses. It calls the library at most twice, and addresses as bytes are fastest."""
         return list(map(_number, _many("routes_index_hop{}_many", self._own(), addrs)))
 
+    def share(self) -> Index:
+        """Returns another object of the same snapshot, for one other thread: the one that calls it first. Nothing is copied.
+
+        `hops` of many addresses releases Python's lock, so threads that have an object each look up addresses at the same time.
+        """
+        index = Index.__new__(Index)
+        index._raw = _Index()
+        _is_found(_library.routes_index_share(index._raw, self._own()))
+        return index
+
 
 class Follower(_Handle):
     """The hops that the reply lines of a leader report: a context manager, which closes it. A leader is `routes lead` or `Table.line`.
@@ -411,10 +419,10 @@ class _Piece(ctypes.Structure):
     _fields_ = [("high", c_uint64), ("low", c_uint64), ("hop", c_uint32), ("family", c_uint8), ("len", c_uint8)]
 
 
-def _load() -> ctypes.PyDLL:
-    """Loads the library, with the signatures of its header. A PyDLL holds Python's lock, so no two calls run at once."""
+def _load(kind: Type[ctypes.CDLL]) -> ctypes.CDLL:
+    """Loads the library, with the signatures of its header."""
     folder = os.environ.get("ROUTES_LIB")
-    library = ctypes.PyDLL(os.path.join(folder, "libroutes.so") if folder else "libroutes.so.1")
+    library = kind(os.path.join(folder, "libroutes.so") if folder else "libroutes.so.1")
     table, route, change, piece = POINTER(_Table), POINTER(_Route), POINTER(_Change), POINTER(_Piece)
     index, addrs4, addrs6, hops, size = POINTER(_Index), POINTER(c_uint32), POINTER(_Addr6), POINTER(c_uint64), POINTER(c_size_t)
     net4, net6 = (c_uint32, c_uint8), (c_uint64, c_uint64, c_uint8)
@@ -432,7 +440,7 @@ def _load() -> ctypes.PyDLL:
         ("del4", c_uint32, table, c_uint32, c_uint8, c_uint64, change),
         ("del6", c_uint32, table, c_uint64, c_uint64, c_uint8, c_uint64, change),
         ("flat", c_uint32, table),
-        ("piece_at", c_uint32, table, c_size_t, piece),
+        ("read_pieces", c_size_t, table, c_size_t, piece, c_size_t),
         *((f"{name}4", c_uint32, table, *net4) for name in ("list", "cover", "all", "governed")),
         *((f"{name}6", c_uint32, table, *net6) for name in ("list", "cover", "all", "governed")),
         *((f"{name}4", c_uint32, table, *net4, c_size_t) for name in ("from", "after")),
@@ -441,6 +449,7 @@ def _load() -> ctypes.PyDLL:
         ("least", c_uint32, table),
         ("read", c_size_t, table, c_size_t, route, c_size_t),
         ("index_open", c_uint32, index, table),
+        ("index_share", c_uint32, index, index),
         ("index_close", None, index),
         ("index_hop4_many", c_uint32, index, addrs4, c_size_t, hops, c_size_t),
         ("index_hop6_many", c_uint32, index, addrs6, c_size_t, hops, c_size_t),
@@ -450,7 +459,7 @@ def _load() -> ctypes.PyDLL:
         ("follower_get4", c_uint32, follower, c_uint32, hop),
         ("follower_get6", c_uint32, follower, c_uint64, c_uint64, hop),
         ("follower_flat", c_uint32, follower),
-        ("follower_piece_at", c_uint32, follower, c_size_t, piece),
+        ("follower_read_pieces", c_size_t, follower, c_size_t, piece, c_size_t),
         ("follower_least", c_uint32, follower),
         ("follower_read", c_size_t, follower, c_size_t, route, c_size_t),
         ("follower_index", c_uint32, index, follower),
@@ -462,7 +471,14 @@ def _load() -> ctypes.PyDLL:
     return library
 
 
-_library = _load()
+_library = _load(ctypes.PyDLL)
+"""The calls hold Python's lock."""
+
+_unlocked = _load(ctypes.CDLL)
+"""The calls release Python's lock while they run: for long calls, since taking the lock again may take milliseconds."""
+
+_LONG = 4096
+"""So many addresses are a long call."""
 
 
 def _is_found(answer: int) -> bool:
@@ -494,7 +510,8 @@ def _many(name: str, raw: _Table | _Index, addrs: Iterable[Address | str | bytes
         numbers = struct.unpack(">" + form, b"".join([packed[place] for place in places]))
         asked = (type_ * len(places)).from_buffer_copy(struct.pack("=" + form, *numbers))
         hops = (c_uint64 * len(places))()
-        _is_found(getattr(_library, name.format(version))(raw, asked, len(places), hops, len(places)))
+        library = _library if len(places) < _LONG else _unlocked
+        _is_found(getattr(library, name.format(version))(raw, asked, len(places), hops, len(places)))
         for place, hop in zip(places, hops[:]):
             answers[place] = hop
     return answers

@@ -91,9 +91,9 @@ impl Follower {
     pub fn flat(&self) -> Result<Vec<Piece>, Error> {
         // SAFETY: the follower is as `raw` says.
         check(unsafe { raw::routes_follower_flat(self.raw.get()) })?;
-        // SAFETY: the follower is as `raw` says, and `piece` is a reference.
-        Ok(pieces(|index, piece| unsafe {
-            raw::routes_follower_piece_at(self.raw.get(), index, piece)
+        // SAFETY: the follower is as `raw` says, and `part` is a slice.
+        Ok(pieces(|from, part| unsafe {
+            raw::routes_follower_read_pieces(self.raw.get(), from, part.as_mut_ptr(), part.len())
         }))
     }
 

@@ -8,7 +8,23 @@ use std::net::IpAddr;
 /// The hop of each address, as a table had it when the index was made. An index is a snapshot:
 /// later changes don't reach it. Its lookups are faster than the table's.
 ///
-/// An index is `Send` and not `Sync`, as a table is.
+/// An index is `Send` and not `Sync`, as a table is. Give each thread that looks up addresses an
+/// index of its own, which `share` makes without a copy:
+///
+/// ```
+/// use jolmidda::{Hop, Index, Table, PREFERENCE};
+/// use std::net::Ipv4Addr;
+/// use std::thread;
+///
+/// let mut table = Table::new()?;
+/// table.add("10.0.0.0/8".parse()?, Hop::Number(1), PREFERENCE)?;
+/// let index = Index::new(&table)?;
+/// let other = index.share()?;
+/// let reader = thread::spawn(move || other.hop(Ipv4Addr::new(10, 2, 3, 4)));
+/// assert_eq!(index.hop(Ipv4Addr::new(10, 2, 3, 4)), Some(1));
+/// assert_eq!(reader.join().unwrap(), Some(1));
+/// # Ok::<(), Box<dyn std::error::Error>>(())
+/// ```
 pub struct Index {
     /// As in a table.
     raw: Box<UnsafeCell<raw::Index>>,
@@ -33,6 +49,16 @@ impl Index {
         let index = Index { raw };
         check(open(index.raw.get()))?;
         Ok(index)
+    }
+
+    /// Makes another index of the same snapshot, for another thread. Nothing is copied, and the
+    /// memory is freed when all of them are dropped.
+    ///
+    /// # Errors
+    /// `NoMemory`.
+    pub fn share(&self) -> Result<Index, Error> {
+        // SAFETY: the new index is closed, and ours alone; this one is as its `raw` says.
+        Index::opened(|index| unsafe { raw::routes_index_share(index, self.raw.get()) })
     }
 
     /// Returns the hop of the address, or `None` if it had no route or a null route.

@@ -1,27 +1,34 @@
-use crate::table::{found, net};
+use crate::table::net;
 use crate::{raw, Piece, Route};
 
-/// The blocks of a list, read one by one.
-pub fn pieces(mut piece_at: impl FnMut(usize, &mut raw::Piece) -> u32) -> Vec<Piece> {
-    let piece = |index| {
-        let mut piece = raw::Piece::default();
-        found(piece_at(index, &mut piece)).then(|| Piece {
-            net: net(piece.family, piece.high, piece.low, piece.len),
-            hop: piece.hop,
-        })
-    };
-    (0..).map_while(piece).collect()
+/// The items of a list, copied in parts.
+fn items<T: Copy + Default, U: From<T>>(mut read: impl FnMut(usize, &mut [T]) -> usize) -> Vec<U> {
+    let mut items = Vec::new();
+    let mut part = [T::default(); 256];
+    loop {
+        let count = read(items.len(), &mut part);
+        if count == 0 {
+            return items;
+        }
+        items.extend(part[..count].iter().map(|&item| U::from(item)));
+    }
 }
 
-/// The routes of a list, copied in parts.
-pub fn routes(mut read: impl FnMut(usize, &mut [raw::Route]) -> usize) -> Vec<Route> {
-    let mut routes = Vec::new();
-    let mut part = [raw::Route::default(); 256];
-    loop {
-        let count = read(routes.len(), &mut part);
-        if count == 0 {
-            return routes;
+/// The blocks of a flat list.
+pub fn pieces(read: impl FnMut(usize, &mut [raw::Piece]) -> usize) -> Vec<Piece> {
+    items(read)
+}
+
+/// The routes of a list.
+pub fn routes(read: impl FnMut(usize, &mut [raw::Route]) -> usize) -> Vec<Route> {
+    items(read)
+}
+
+impl From<raw::Piece> for Piece {
+    fn from(piece: raw::Piece) -> Piece {
+        Piece {
+            net: net(piece.family, piece.high, piece.low, piece.len),
+            hop: piece.hop,
         }
-        routes.extend(part[..count].iter().map(|&route| Route::from(route)));
     }
 }

@@ -77,7 +77,7 @@ pub struct Change {
 }
 
 #[repr(C)]
-#[derive(Default)]
+#[derive(Clone, Copy, Default)]
 pub struct Piece {
     pub high: u64,
     pub low: u64,
@@ -119,7 +119,12 @@ extern "C" {
         change: *mut Change,
     ) -> u32;
     pub fn routes_flat(table: *mut Table) -> u32;
-    pub fn routes_piece_at(table: *mut Table, index: usize, piece: *mut Piece) -> u32;
+    pub fn routes_read_pieces(
+        table: *mut Table,
+        from: usize,
+        pieces: *mut Piece,
+        room: usize,
+    ) -> usize;
     pub fn routes_get4_many(
         table: *mut Table,
         addrs: *const u32,
@@ -151,6 +156,7 @@ extern "C" {
     pub fn routes_least(table: *mut Table) -> u32;
     pub fn routes_read(table: *mut Table, from: usize, routes: *mut Route, room: usize) -> usize;
     pub fn routes_index_open(index: *mut Index, table: *mut Table) -> u32;
+    pub fn routes_index_share(index: *mut Index, from: *mut Index) -> u32;
     pub fn routes_index_close(index: *mut Index);
     pub fn routes_index_hop4(index: *mut Index, addr: u32, hop: *mut u64) -> u32;
     pub fn routes_index_hop6(index: *mut Index, high: u64, low: u64, hop: *mut u64) -> u32;
@@ -175,11 +181,12 @@ extern "C" {
     pub fn routes_follower_get6(follower: *mut Follower, high: u64, low: u64, hop: *mut u32)
         -> u32;
     pub fn routes_follower_flat(follower: *mut Follower) -> u32;
-    pub fn routes_follower_piece_at(
+    pub fn routes_follower_read_pieces(
         follower: *mut Follower,
-        index: usize,
-        piece: *mut Piece,
-    ) -> u32;
+        from: usize,
+        pieces: *mut Piece,
+        room: usize,
+    ) -> usize;
     pub fn routes_follower_least(follower: *mut Follower) -> u32;
     pub fn routes_follower_read(
         follower: *mut Follower,

@@ -150,9 +150,9 @@ impl Table {
     pub fn flat(&self) -> Result<Vec<Piece>, Error> {
         // SAFETY: the table is as `raw` says.
         check(unsafe { raw::routes_flat(self.raw.get()) })?;
-        // SAFETY: the table is as `raw` says, and `piece` is a reference.
-        Ok(pieces(|index, piece| unsafe {
-            raw::routes_piece_at(self.raw.get(), index, piece)
+        // SAFETY: the table is as `raw` says, and `part` is a slice.
+        Ok(pieces(|from, part| unsafe {
+            raw::routes_read_pieces(self.raw.get(), from, part.as_mut_ptr(), part.len())
         }))
     }
 

@@ -2,7 +2,7 @@
 //! dropped on another.
 
 use jolmidda::{Follower, Hop, Index, Net, Table, PREFERENCE};
-use std::net::Ipv4Addr;
+use std::net::{IpAddr, Ipv4Addr};
 use std::sync::mpsc::{channel, Receiver, Sender};
 use std::sync::{Arc, Mutex};
 use std::thread;
@@ -54,6 +54,32 @@ fn from_thread_to_thread() {
     let second = thread::spawn(move || work(from_first, to_first));
     first.join().unwrap();
     second.join().unwrap();
+}
+
+/// Threads look up addresses in one snapshot at the same time, each by an index of its own.
+#[test]
+fn by_shares_of_an_index() {
+    let mut table = Table::new().unwrap();
+    for step in 0..STEPS {
+        let net = Net::new(addr(step), 32).unwrap();
+        table.add(net, Hop::Number(step), PREFERENCE).unwrap();
+    }
+    let index = Index::new(&table).unwrap();
+    let threads: Vec<_> = (0..8)
+        .map(|_| {
+            let share = index.share().unwrap();
+            thread::spawn(move || {
+                let addrs: Vec<IpAddr> = (0..STEPS).map(|step| addr(step).into()).collect();
+                let hops: Vec<_> = (0..STEPS).map(Some).collect();
+                assert_eq!(share.hops(&addrs), hops);
+                assert_eq!(share.share().unwrap().hop(addr(STEPS)), None);
+            })
+        })
+        .collect();
+    drop((table, index));
+    for thread in threads {
+        thread.join().unwrap();
+    }
 }
 
 /// A lock makes a table shareable.

@@ -1,18 +1,24 @@
 -- The contents that a handle may have.
 use Rattle.std.specs.Prelude.{Option, None, Some}
 use Rattle.std.specs.Borrow.{Fml, LendsIf, MutBor, RattleType}
+use Rattle.hop_index.specs.Indexes.{Index as Hops}
 use Rattle.routes_c.specs.contracts.content.Content.{the_row}
 use Rattle.routes_c.specs.declared.content.Content.{Content}
 use Rattle.routes_c.specs.declared.content.Content.TheVariants.{Table, Index, Follower}
 use Rattle.routes_c.specs.declared.follower_session.FollowerSession.{FollowerSession}
 use Rattle.routes_c.specs.declared.index_session.IndexSession.{IndexSession}
 use Rattle.routes_c.specs.declared.session.Session.{Session}
+use Rattle.std_alloc.specs.Arc.{arc_value}
 
 -- the table, if the content is one
 abbrev pub table_in : Content → Option Session
 table_in (Table s) = Some s
 table_in (Index i) = None
 table_in (Follower f) = None
+
+-- the index of the content of a handle
+abbrev pub hops_in : IndexSession → Hops
+hops_in i = arc_value i.index
 
 -- the index, if the content is one
 abbrev pub index_in : Content → Option IndexSession

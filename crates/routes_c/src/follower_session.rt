@@ -4,11 +4,13 @@ ghost use Rattle.ipnet_addr.specs.Addresses.{address_of};
 ghost use Rattle.route_laws.specs.LeastTables.{IsLeast};
 ghost use Rattle.route_laws.specs.Networks.{routes_of};
 ghost use Rattle.route_laws.specs.Tables.{hop_at};
+ghost use Rattle.routes_c.specs.Contents.{hops_in};
 ghost use Rattle.routes_c.specs.Followers.{FollowerFlattens, FollowerLists, Follows, TellsHop};
 ghost use Rattle.routes_c.specs.Opens.{HasHopsOf, IsEmpty, IsNoIndex};
 ghost use Rattle.routes_c.specs.RouteLists.{Shown};
 
 use crate::asked::items;
+use crate::index_session::IndexSession;
 use crate::kept::Kept;
 use crate::shown::Route;
 use hop_index::HopIndex;
@@ -98,16 +100,16 @@ impl FollowerSession {
     }
 
     /// Compiles an index of the hops.
-    pub(crate) fn index(&self, alloc: Global) -> Result<HopIndex, u32>
+    pub(crate) fn index(&self, alloc: Global) -> Result<IndexSession, u32>
         ensures works { IfOk result (λ _. self.now.follower.failed ≡ false) }
-        ensures hops { IfOk result (λ i. HasHopsOf self.now.follower.table i) }
+        ensures hops { IfOk result (λ i. HasHopsOf self.now.follower.table (hops_in i)) }
         ensures none { IfErr result (IsNoIndex self.now) }
     {
         let Some(flat) = self.follower.flat() else {
             return Err(8);
         };
         match HopIndex::from_flat(alloc, flat) {
-            Ok(index) => Ok(index),
+            Ok(index) => IndexSession::new(alloc, index),
             Err(_) => Err(2),
         }
     }

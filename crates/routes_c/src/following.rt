@@ -23,7 +23,7 @@ pub extern "C" fn routes_follower_line(alloc: Global, follower: &mut Handle, lin
     follower.on(alloc, 3, |session: &mut FollowerSession| session.line(line))
 }
 
-/// Makes the flat list of the hops, which `routes_follower_piece_at` reads.
+/// Makes the flat list of the hops, which `routes_follower_piece_at` and `routes_follower_read_pieces` read.
 ///
 /// Returns 0. Fails with 2 if an allocation fails, 3 if the handle is closed, and 8 after a fault. Then the list is unchanged.
 #[unsafe(no_mangle)]
@@ -51,6 +51,22 @@ pub extern "C" fn routes_follower_piece_at(
 {
     follower.on_with(alloc, piece, 3, |session: &mut FollowerSession, piece| {
         tell_at(&session.kept.pieces, index, piece)
+    })
+}
+
+/// Copies the pieces of the list that was made last, as `routes_read_pieces` does.
+#[unsafe(no_mangle)]
+pub extern "C" fn routes_follower_read_pieces(
+    alloc: Global,
+    follower: &mut Handle,
+    from: usize,
+    out: &mut [Piece],
+) -> usize
+    requires { IsHandle follower.old }
+    ensures { Copies follower_of follower.old follower.new (λ s. s.kept.pieces.items) from result out.old out.new }
+{
+    follower.on_slice(alloc, out, 0, |session: &mut FollowerSession, out| {
+        copy_from(session.kept.pieces.as_slice(), from, out)
     })
 }
 

@@ -1,5 +1,6 @@
 //! Hops of addresses as numbers, for a table and for an index: one, or many in one call.
 ghost use Rattle.std.specs.Prelude.{◌≡◌, ℕ, Some, length, map};
+ghost use Rattle.routes_c.specs.Contents.{hops_in};
 ghost use Rattle.routes_c.specs.Handles.{Finds, IsHandle, index_of, session_of};
 ghost use Rattle.routes_c.specs.Many.{Answers, Fills, hop4_at, hop6_at, index_hop4, index_hop6};
 
@@ -135,10 +136,10 @@ pub extern "C" fn routes_index_hop4(
     hop: &mut u64,
 ) -> u32
     requires { IsHandle index.old }
-    ensures { Finds index_of index.old index.new (λ s. Some (index_hop4 s.index addr)) result hop.old hop.new }
+    ensures { Finds index_of index.old index.new (λ s. Some (index_hop4 (hops_in s) addr)) result hop.old hop.new }
 {
     index.on_with(alloc, hop, 3, |session: &mut IndexSession, hop| {
-        tell_hop(&session.index, addr, hop)
+        tell_hop(&*session.index, addr, hop)
     })
 }
 
@@ -154,10 +155,10 @@ pub extern "C" fn routes_index_hop6(
     hop: &mut u64,
 ) -> u32
     requires { IsHandle index.old }
-    ensures { Finds index_of index.old index.new (λ s. Some (index_hop6 s.index (record { high = high; low = low }))) result hop.old hop.new }
+    ensures { Finds index_of index.old index.new (λ s. Some (index_hop6 (hops_in s) (record { high = high; low = low }))) result hop.old hop.new }
 {
     index.on_with(alloc, hop, 3, |session: &mut IndexSession, hop| {
-        tell_hop(&session.index, Addr6 { high, low }, hop)
+        tell_hop(&*session.index, Addr6 { high, low }, hop)
     })
 }
 
@@ -173,10 +174,10 @@ pub extern "C" fn routes_index_hop4_many(
     hops: &mut [u64],
 ) -> u32
     requires { IsHandle index.old }
-    ensures { Answers index_of index.old index.new (λ s. index_hop4 s.index) addrs.now result hops.old hops.new }
+    ensures { Answers index_of index.old index.new (λ s. index_hop4 (hops_in s)) addrs.now result hops.old hops.new }
 {
     index.on_slice(alloc, hops, 3, |session: &mut IndexSession, hops| {
-        fill(&session.index, addrs, hops)
+        fill(&*session.index, addrs, hops)
     })
 }
 
@@ -191,9 +192,9 @@ pub extern "C" fn routes_index_hop6_many(
     hops: &mut [u64],
 ) -> u32
     requires { IsHandle index.old }
-    ensures { Answers index_of index.old index.new (λ s. index_hop6 s.index) addrs.now result hops.old hops.new }
+    ensures { Answers index_of index.old index.new (λ s. index_hop6 (hops_in s)) addrs.now result hops.old hops.new }
 {
     index.on_slice(alloc, hops, 3, |session: &mut IndexSession, hops| {
-        fill(&session.index, addrs, hops)
+        fill(&*session.index, addrs, hops)
     })
 }

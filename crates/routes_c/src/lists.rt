@@ -17,7 +17,8 @@ use crate::session::Session;
 use crate::shown::{Piece, Route, net4, net6};
 use std::alloc::Global;
 
-/// Makes the flat list: the shortest ascending list of one-hop blocks that covers all addresses with a hop. `routes_piece_at` reads it.
+/// Makes the flat list: the shortest ascending list of one-hop blocks that covers all addresses with a hop. `routes_piece_at` and
+/// `routes_read_pieces` read it.
 ///
 /// Returns 0. Fails with 2 if an allocation fails, and 3 if the handle is closed. Then the list is unchanged.
 #[unsafe(no_mangle)]
@@ -43,6 +44,23 @@ pub extern "C" fn routes_piece_at(
 {
     handle.on_with(alloc, piece, 3, |session: &mut Session, piece| {
         tell_at(&session.kept.pieces, index, piece)
+    })
+}
+
+/// Copies the pieces of the list that was made last, from an index on, as far as there is room. Returns the number of pieces copied.
+/// A closed handle has an empty list.
+#[unsafe(no_mangle)]
+pub extern "C" fn routes_read_pieces(
+    alloc: Global,
+    handle: &mut Handle,
+    from: usize,
+    out: &mut [Piece],
+) -> usize
+    requires { IsHandle handle.old }
+    ensures { Copies session_of handle.old handle.new (λ s. s.kept.pieces.items) from result out.old out.new }
+{
+    handle.on_slice(alloc, out, 0, |session: &mut Session, out| {
+        copy_from(session.kept.pieces.as_slice(), from, out)
     })
 }
 

@@ -1,14 +1,13 @@
 //! Opening and closing handles.
 ghost use Rattle.std.specs.Prelude.{◌≡◌, Err, ⊤};
-ghost use Rattle.routes_c.specs.Handles.{IsClosed, IsHandle, Reads, content_of, follower_of, session_of};
-ghost use Rattle.routes_c.specs.Opens.{IsNewFollower, IsNewTable, Opens, OpensIndex, OpensIndexOf};
+ghost use Rattle.routes_c.specs.Handles.{IsClosed, IsHandle, Reads, content_of, follower_of, index_of, session_of};
+ghost use Rattle.routes_c.specs.Opens.{IsNewFollower, IsNewTable, Opens, OpensIndex, OpensIndexOf, SharesIndex};
 
 use crate::content::Content;
 use crate::follower_session::FollowerSession;
 use crate::handle::Handle;
 use crate::index_session::IndexSession;
 use crate::session::Session;
-use hop_index::HopIndex;
 use route_feed::Follower;
 use route_table::RouteTable;
 use std::alloc::Global;
@@ -84,7 +83,7 @@ pub extern "C" fn routes_index_open(alloc: Global, index: &mut Handle, table: &m
         return 4;
     }
     match table.on(alloc, Err(3), |session: &mut Session| session.index(alloc)) {
-        Ok(made) => index.open(alloc, Content::Index(IndexSession { index: made })),
+        Ok(made) => index.open(alloc, Content::Index(made)),
         Err(code) => code,
     }
 }
@@ -113,7 +112,29 @@ pub extern "C" fn routes_follower_index(
         Err(3),
         |session: &mut FollowerSession| session.index(alloc),
     ) {
-        Ok(made) => index.open(alloc, Content::Index(IndexSession { index: made })),
+        Ok(made) => index.open(alloc, Content::Index(made)),
+        Err(code) => code,
+    }
+}
+
+/// Opens a closed handle as another handle of an open index. Copies nothing of the index. Each handle is used and closed by itself, and
+/// the last close frees the index.
+///
+/// Returns 0. Fails with 2 if an allocation fails or too many handles share the index, 3 if `from` is closed, and 4 if the handle is
+/// open. Then it is unchanged.
+#[unsafe(no_mangle)]
+pub extern "C" fn routes_index_share(alloc: Global, index: &mut Handle, from: &mut Handle) -> u32
+    requires index { IsHandle index.old }
+    requires from { IsHandle from.old }
+    ensures index { IsHandle index.new }
+    ensures from { Reads index_of from.old from.new ⊤ (λ s. ⊤) }
+    ensures opens { SharesIndex (content_of index.old) (content_of index.new) (index_of from.old) result }
+{
+    if index.is_open {
+        return 4;
+    }
+    match from.on(alloc, Err(3), |session: &mut IndexSession| session.share()) {
+        Ok(made) => index.open(alloc, Content::Index(made)),
         Err(code) => code,
     }
 }

@@ -3,6 +3,7 @@ ghost use Rattle.std.specs.Prelude.{◌≡◌, [], IfErr, IfOk};
 ghost use Rattle.ipnet.specs.IpNets.{block};
 ghost use Rattle.routes_c.specs.Answered.{Answered};
 ghost use Rattle.routes_c.specs.Calls.{Adds, KeepsLists, Removes};
+ghost use Rattle.routes_c.specs.Contents.{hops_in};
 ghost use Rattle.routes_c.specs.Handles.{Told};
 ghost use Rattle.routes_c.specs.Lists.{Flattens, Lists};
 ghost use Rattle.routes_c.specs.Opens.{HasHopsOf, IsEmpty};
@@ -10,6 +11,7 @@ ghost use Rattle.routes_c.specs.RouteLists.{AreAsked};
 ghost use Rattle.routes_c.specs.Shown.{found_at};
 
 use crate::asked::Asked;
+use crate::index_session::IndexSession;
 use crate::kept::Kept;
 use crate::shown::{Change, Route, show, shown_change};
 use hop_index::HopIndex;
@@ -108,12 +110,12 @@ impl Session {
     }
 
     /// Compiles an index of the hops.
-    pub(crate) fn index(&self, alloc: Global) -> Result<HopIndex, u32>
-        ensures hops { IfOk result (HasHopsOf self.now.table) }
+    pub(crate) fn index(&self, alloc: Global) -> Result<IndexSession, u32>
+        ensures hops { IfOk result (λ i. HasHopsOf self.now.table (hops_in i)) }
         ensures memory { IfErr result (λ e. e ≡ 2) }
     {
         match HopIndex::of_table(alloc, &self.table) {
-            Ok(index) => Ok(index),
+            Ok(index) => IndexSession::new(alloc, index),
             Err(_) => Err(2),
         }
     }
