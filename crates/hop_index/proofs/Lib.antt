@@ -6,3 +6,4 @@ pub mod Walks
 pub mod Pieces
 pub mod Joins
 pub mod Indexes
+pub mod Groups

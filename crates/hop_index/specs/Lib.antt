@@ -2,3 +2,4 @@ pub mod InnerHeads
 pub mod Ranges
 pub mod InnerRanges
 pub mod Indexes
+pub mod InnerIndexes

@@ -6,8 +6,10 @@ ghost use Rattle.route_laws.specs.Networks.{routes_of};
 ghost use Rattle.route_laws.specs.Tables.{hop_at};
 ghost use Rattle.prefix_trie.specs.declared.refused.Refused.TheVariants.{Memory};
 ghost use Rattle.hop_index.specs.Indexes.{hop_of};
+ghost use Rattle.hop_index.specs.InnerIndexes.{IsWithin};
 ghost use Rattle.hop_index.specs.InnerRanges.{AreRangesOf, spans_in};
 
+use crate::batches::{Addressed, store_all};
 use crate::lookups::Lookups;
 use crate::ranges::Ranges;
 use crate::stored::{Halves, Stored};
@@ -142,6 +144,31 @@ impl HopIndex {
         }
     }
 
+    /// Bounds of the number of ranges that end below the address.
+    #[inline(always)]
+    pub(crate) fn bounds(&self, addr: IpAddr) -> (u32, u32)
+        ensures { IsWithin self.now (address_of addr) result }
+    {
+        match addr {
+            IpAddr::V4(addr) => self.v4.bounds(u32::of_addr(addr)),
+            IpAddr::V6(addr) => self.v6.bounds(Halves::of_bits(u128::of_addr(addr))),
+        }
+    }
+
+    /// The hop of the address, with its bounds.
+    #[inline(always)]
+    pub(crate) fn hop_within(&self, addr: IpAddr, bounds: (u32, u32)) -> Option<u32>
+        requires { IsWithin self.now (address_of addr) bounds }
+        ensures { result ≡ hop_of self.now (address_of addr) }
+    {
+        match addr {
+            IpAddr::V4(addr) => self.v4.hop_within(u32::of_addr(addr), bounds),
+            IpAddr::V6(addr) => self
+                .v6
+                .hop_within(Halves::of_bits(u128::of_addr(addr)), bounds),
+        }
+    }
+
     /// Stores the hops of the addresses in `hops`, in the same order; both slices must have the same length. Does not allocate.
     ///
     /// # Examples
@@ -157,8 +184,24 @@ impl HopIndex {
         requires { length hops.old ≡ length addrs.now }
         ensures { hops.new ≡ map (λ addr. hop_of self.now (address_of addr)) addrs.now }
     {
-        for place in 0..addrs.len() {
-            hops[place] = self.hop(addrs[place]);
-        }
+        store_all(self, addrs, hops);
+    }
+
+    /// Stores the hops of addresses in a form of their own, such as IPv4 addresses as `u32`. Else as `hops`.
+    ///
+    /// # Examples
+    /// If 10.0.0.0/9 has the hop 2, and 11.0.0.0/8 none:
+    ///
+    /// ```rust
+    /// let addrs = [0x0a01_0203_u32, 0x0b00_0001];
+    /// let mut hops = [None; 2];
+    /// index.hops_of(&addrs, &mut hops);
+    /// assert_eq!(rt; hops, [Some(2), None]);
+    /// ```
+    pub fn hops_of<A: Addressed>(&self, addrs: &[A], hops: &mut [Option<u32>])
+        requires { length hops.old ≡ length addrs.now }
+        ensures { hops.new ≡ map (λ addr. hop_of self.now (A.address addr)) addrs.now }
+    {
+        store_all(self, addrs, hops);
     }
 }

@@ -1,9 +1,11 @@
 //! A lookup table of the hops of addresses, compiled from a route table.
 #![tactic(auto)]
 
+pub use batches::Addressed;
 pub use index::HopIndex;
 pub use prefix_trie::Refused;
 
+mod batches;
 mod cells;
 mod index;
 mod lookups;

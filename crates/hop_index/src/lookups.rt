@@ -106,13 +106,34 @@ impl<N: Stored> Lookups<N> {
         })
     }
 
+    /// Bounds of the number of ranges that end below the number.
+    #[inline]
+    pub(crate) fn bounds(&self, number: N) -> (u32, u32)
+        ensures below { EndsBelow self.now (N.number number) result.0 }
+        ensures from { EndsFrom self.now (N.number number) result.1 }
+        ensures number { N.number number < 2 ^ N.width }
+    {
+        let cell = cell_at(&self.tops, number.head());
+        (self.cells[cell], self.cells[cell + 1])
+    }
+
+    /// The hop of the number, with its bounds.
+    #[inline]
+    pub(crate) fn hop_within(&self, number: N, bounds: (u32, u32)) -> Option<u32>
+        requires number { N.number number < 2 ^ N.width }
+        requires below { EndsBelow self.now (N.number number) bounds.0 }
+        requires from { EndsFrom self.now (N.number number) bounds.1 }
+        ensures { result ≡ hop_in self.now (N.number number) }
+    {
+        let place = ended(&self.ranges, bounds.0, bounds.1, number);
+        self.ranges.hop(place)
+    }
+
     /// The hop of the number.
     #[inline]
     pub(crate) fn hop(&self, number: N) -> Option<u32>
         ensures { result ≡ hop_in self.now (N.number number) }
     {
-        let cell = cell_at(&self.tops, number.head());
-        let place = ended(&self.ranges, self.cells[cell], self.cells[cell + 1], number);
-        self.ranges.hop(place)
+        self.hop_within(number, self.bounds(number))
     }
 }

@@ -1,18 +1,25 @@
 //! Hops of addresses as numbers, for a table and for an index: one, or many in one call.
-ghost use Rattle.std.specs.Prelude.{◌≡◌, ℕ, Some, length, map};
+ghost use Rattle.std.specs.Prelude.{◌≡◌, ℕ, ◌+◌, ◌*◌, ◌^◌, ◌≤◌, Some, length, map};
+ghost use Rattle.hop_index.specs.Indexes.{hop_of};
+ghost use Rattle.ipnet_addr.specs.Addresses.{Ipv6};
 ghost use Rattle.routes_c.specs.Contents.{hops_in};
 ghost use Rattle.routes_c.specs.Handles.{Finds, IsHandle, index_of, session_of};
 ghost use Rattle.routes_c.specs.Many.{Answers, Fills, hop4_at, hop6_at, index_hop4, index_hop6};
+ghost use Rattle.routes_c.specs.Shown.{number_shown};
 
 use crate::handle::Handle;
 use crate::index_session::IndexSession;
 use crate::session::Session;
-use crate::shown::{Addr6, ip4, ip6, net4, net6, shown_match, shown_number};
-use hop_index::HopIndex;
+use crate::shown::{Addr6, ip6, net4, net6, shown_match, shown_number};
+use hop_index::{Addressed, HopIndex};
+use ipnet::IpAddr;
 use route_table::RouteTable;
 use std::alloc::Global;
 
-/// A table or an index, which returns the hop of an address as one number.
+/// The number of addresses whose hops are looked up in an index at once.
+const GROUP: usize = 64;
+
+/// A table, which returns the hop of an address as one number.
 pub(crate) trait Hops<A> {
     ghost number: { Self → A → ℕ };
 
@@ -43,22 +50,6 @@ impl Hops<Addr6> for RouteTable {
     }
 }
 
-impl Hops<u32> for HopIndex {
-    ghost number = { index_hop4 };
-
-    fn hop_number(&self, addr: u32) -> u64 {
-        shown_number(self.hop(ip4(addr)))
-    }
-}
-
-impl Hops<Addr6> for HopIndex {
-    ghost number = { index_hop6 };
-
-    fn hop_number(&self, addr: Addr6) -> u64 {
-        shown_number(self.hop(ip6(addr.high, addr.low)))
-    }
-}
-
 /// Looks up the hops of the addresses; both slices have the same length.
 fn fill_all<A: Copy, T: Hops<A>>(told: &T, addrs: &[A], hops: &mut [u64])
     requires { length hops.old ≡ length addrs.now }
@@ -79,12 +70,65 @@ fn fill<A: Copy, T: Hops<A>>(told: &T, addrs: &[A], hops: &mut [u64]) -> u32
     0
 }
 
-/// Looks up the hop of one address.
-fn tell_hop<A, T: Hops<A>>(told: &T, addr: A, hop: &mut u64) -> u32
+impl Addressed for Addr6 {
+    ghost address = { λ a. record { family = Ipv6; number = a.high * 2 ^ 64 + a.low } };
+
+    #[inline]
+    fn addr(self) -> IpAddr {
+        ip6(self.high, self.low)
+    }
+}
+
+/// Looks up the hop of one address in an index.
+fn tell_hop<A: Addressed>(index: &HopIndex, addr: A, hop: &mut u64) -> u32
     ensures answers { result ≡ 0 }
-    ensures hop { hop.new ≡ T.number told.now addr }
+    ensures hop { hop.new ≡ number_shown (hop_of index.now (A.address addr)) }
 {
-    *hop = told.hop_number(addr);
+    *hop = shown_number(index.hop(addr.addr()));
+    0
+}
+
+/// Stores the hops as numbers; both slices have the same length.
+fn show_all(found: &[Option<u32>], hops: &mut [u64])
+    requires { length hops.old ≡ length found.now }
+    ensures { hops.new ≡ map number_shown found.now }
+{
+    for place in 0..found.len() {
+        hops[place] = shown_number(found[place]);
+    }
+}
+
+/// Looks up the hops of at most 64 addresses in an index; both slices have the same length.
+fn fill_group<A: Addressed>(index: &HopIndex, addrs: &[A], hops: &mut [u64])
+    requires few { length addrs.now ≤ 64 }
+    requires hops { length hops.old ≡ length addrs.now }
+    ensures { hops.new ≡ map (λ a. number_shown (hop_of index.now (A.address a))) addrs.now }
+{
+    let mut found = [None; GROUP];
+    index.hops_of(addrs, &mut found[..addrs.len()]);
+    show_all(&found[..addrs.len()], hops);
+}
+
+/// Looks up the hops of the addresses in an index, group by group; both slices have the same length.
+fn fill_groups<A: Addressed>(index: &HopIndex, addrs: &[A], hops: &mut [u64])
+    requires { length hops.old ≡ length addrs.now }
+    ensures { hops.new ≡ map (λ a. number_shown (hop_of index.now (A.address a))) addrs.now }
+{
+    let mut place = 0;
+    while place < addrs.len() {
+        let end = place + (addrs.len() - place).min(GROUP);
+        fill_group(index, &addrs[place..end], &mut hops[place..end]);
+        place = end;
+    }
+}
+
+/// Looks up in an index the hops of as many addresses as there is room for.
+fn fill_from_index<A: Addressed>(index: &HopIndex, addrs: &[A], hops: &mut [u64]) -> u32
+    ensures answers { result ≡ 0 }
+    ensures hops { Fills (λ a. number_shown (hop_of index.now (A.address a))) addrs.now hops.old hops.new }
+{
+    let count = addrs.len().min(hops.len());
+    fill_groups(index, &addrs[..count], &mut hops[..count]);
     0
 }
 
@@ -177,7 +221,7 @@ pub extern "C" fn routes_index_hop4_many(
     ensures { Answers index_of index.old index.new (λ s. index_hop4 (hops_in s)) addrs.now result hops.old hops.new }
 {
     index.on_slice(alloc, hops, 3, |session: &mut IndexSession, hops| {
-        fill(&*session.index, addrs, hops)
+        fill_from_index(&*session.index, addrs, hops)
     })
 }
 
@@ -195,6 +239,6 @@ pub extern "C" fn routes_index_hop6_many(
     ensures { Answers index_of index.old index.new (λ s. index_hop6 (hops_in s)) addrs.now result hops.old hops.new }
 {
     index.on_slice(alloc, hops, 3, |session: &mut IndexSession, hops| {
-        fill(&*session.index, addrs, hops)
+        fill_from_index(&*session.index, addrs, hops)
     })
 }

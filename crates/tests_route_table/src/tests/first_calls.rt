@@ -104,6 +104,15 @@ fn indexed_at_once<R: Abort + Alloc<A = Global>>(rt: &R, table: &RouteTable) {
     assert_eq!(rt; hops, [Some(2), None]);
 }
 
+/// The same hops of numbers.
+fn indexed_numbers<R: Abort + Alloc<A = Global>>(rt: &R, table: &RouteTable) {
+    let index = HopIndex::of_table(rt.alloc(), &table).expect(&rt, "an index");
+    let addrs = [0x0a01_0203_u32, 0x0b00_0001];
+    let mut hops = [None; 2];
+    index.hops_of(&addrs, &mut hops);
+    assert_eq!(rt; hops, [Some(2), None]);
+}
+
 /// The half, and then it isn't there.
 fn taken_out(rt: &impl Abort, table: &mut RouteTable) {
     let half = net(rt, "10.0.0.0/9");
@@ -124,6 +133,7 @@ fn two_routes(rt: HostRuntime) {
     flat_list(&rt, &table);
     indexed(&rt, &table);
     indexed_at_once(&rt, &table);
+    indexed_numbers(&rt, &table);
     taken_out(&rt, &mut table);
 }
 

@@ -107,6 +107,36 @@ fn hops_are(rt: &impl Abort, index: &HopIndex) {
     }
 }
 
+/// The numbers of addresses that are looked up together: none, one, and around the number that goes through the steps together.
+const COUNTS: [usize; 6] = [0, 1, 15, 16, 17, 100];
+
+/// A row of `HOPS` for each place, so that families change often.
+fn row_at(place: usize) -> (&'static str, Option<u32>) {
+    HOPS[place % 59 * 30 % 59]
+}
+
+/// Checks the hops at the first `count` places; the others are as they were.
+fn rows_are(rt: &impl Abort, count: usize, hops: &[Option<u32>; 100]) {
+    for place in 0..100 {
+        let (text, hop) = row_at(place);
+        let hop = if place < count { hop } else { Some(99) };
+        row_is(rt, text, hops[place], hop);
+    }
+}
+
+/// Checks the hops of so many addresses of both families, looked up together.
+fn batches_are(rt: &impl Abort, index: &HopIndex) {
+    let mut addrs = [address(rt, "::"); 100];
+    for place in 0..100 {
+        addrs[place] = address(rt, row_at(place).0);
+    }
+    for count in COUNTS {
+        let mut hops = [Some(99); 100];
+        index.hops(&addrs[..count], &mut hops[..count]);
+        rows_are(rt, count, &hops);
+    }
+}
+
 /// An index of the table.
 fn index_of(rt: &impl Abort, alloc: Global, table: &RouteTable) -> HopIndex {
     HopIndex::of_table(alloc, table).expect(rt, "an index")
@@ -139,7 +169,9 @@ fn best(rt: &impl Abort, alloc: Global, routes: &RouteTable) -> HopTable {
 
 /// Checks an index of the table, and an index of the hop table of its best routes.
 pub(crate) fn indexes_are(rt: &impl Abort, alloc: Global, table: &RouteTable) {
-    hops_are(rt, &index_of(rt, alloc, table));
+    let index = index_of(rt, alloc, table);
+    hops_are(rt, &index);
+    batches_are(rt, &index);
     let best = best(rt, alloc, table);
     let index = HopIndex::of_hops(alloc, &best).expect(rt, "an index");
     hops_are(rt, &index);
