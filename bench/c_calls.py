@@ -57,15 +57,15 @@ def networks_of(adds, family, folder):
     return networks, routes, alone
 
 
-def timed(bench, program, sides, adds, family, space):
+def timed(bench, program, sides, adds, family, mixes, space):
     """The number of networks of the family, and the least times."""
     networks, routes, alone = networks_of(adds, family, bench.folder)
-    asked = calls.asked(bench.folder, family, networks, bench.asked, space)
+    asked = calls.asked(bench.folder, family, networks, bench.asked, mixes, space)
     found = {}
     for side in sides:
-        found[side] = lambda side=side: calls.of_lines(measure.run([*bench.pin, program, side, family, routes, *asked]))
+        found[side] = lambda side=side: calls.of_lines(measure.run([*bench.pin, program, side, family, routes, *asked]), mixes)
     if bench.given.map_peer:
-        found["crate"] = lambda: calls.of_crate([*bench.pin, bench.given.map_peer], family, alone, asked)
+        found["crate"] = lambda: calls.of_crate([*bench.pin, bench.given.map_peer], family, alone, asked, mixes)
     return len(networks), calls.timed(f"IP{family}", bench.runs, found)
 
 
@@ -115,8 +115,9 @@ def other_tables(bench, feed):
 def others(bench, program, sides, feed):
     """Two rows for each other table: by network, and anywhere. Each has the bytes and the making of the index for a network."""
     for name, family, adds, space in other_tables(bench, feed):
-        _, least = timed(bench, program, sides, adds, family, space)
-        for mix in ("even", "anywhere"):
+        mixes = ("even", "anywhere")
+        _, least = timed(bench, program, sides, adds, family, mixes, space)
+        for mix in mixes:
             ways = (("routes", "index"), ("routes", "index_many"), ("routes", "match"), ("crate", "match"), ("fib", "index"), ("fib", "index_many"))
             cells = [calls.nanoseconds(least.get((side, way, mix))) for side, way in ways]
             cells += [calls.nanoseconds(least.get(("routes", call, None))) for call in ("index_bytes", "index_open")]
@@ -136,7 +137,7 @@ def measured(bench):
         print("bench: the calls from C are left out, which need the real feed and a C compiler", file=sys.stderr)
         return
     with measure.Others() as load:
-        parts = {family: timed(bench, program, sides, adds_of(feed, family), family, SPACES[family]) for family in SPACES}
+        parts = {family: timed(bench, program, sides, adds_of(feed, family), family, feeds.MIXES, SPACES[family]) for family in SPACES}
         lead = led(bench, feed)
     seen = {key for _, least in parts.values() for key in least}
     text = TEXT.format(asked=f"{bench.asked:,}", version=version(), missing=calls.missing(SIDES, seen))

@@ -27,11 +27,11 @@ def build(root, folder, library=None):
     return program, (("routes",) if library else ()) + (("rib", "fib") if dpdk else ())
 
 
-def of_lines(lines):
-    """Reads the output of a program: lines `CALL FILE NANOSECONDS RESULT`, as described in c/bench.c."""
+def of_lines(lines, mixes=feeds.MIXES):
+    """Reads the output of a program: lines `CALL FILE NANOSECONDS RESULT`, as described in c/bench.c. Its files have these mixes."""
     calls = Calls({}, [])
     for call, file, taken, result in map(str.split, lines):
-        mix = feeds.MIXES[int(file) - 1] if int(file) else None
+        mix = mixes[int(file) - 1] if int(file) else None
         if call != "matched":
             calls.times[call, mix] = float(taken)
             call = "hops" if mix else "add" if call == "index_open" else call
@@ -39,10 +39,10 @@ def of_lines(lines):
     return calls
 
 
-def of_crate(peer, family, stored, asked):
+def of_crate(peer, family, stored, asked, mixes=feeds.MIXES):
     """The same for the crate's map, from one round of the peer's program `micro` for each file of addresses."""
     calls = Calls({}, [])
-    for mix, path in zip(feeds.MIXES, asked):
+    for mix, path in zip(mixes, asked):
         rows = {row[0]: row for row in (line.split(",") for line in run([*peer, family, stored, path, 1]))}
         for call, row, of in (("add", "insert", None), ("matched", "get_lpm", mix), ("walk", "iter", None), ("del", "remove", None)):
             calls.times.setdefault(("match" if of else call, of), float(rows[row][4]))
@@ -76,9 +76,8 @@ def timed(title, runs, sides):
     return least
 
 
-def asked(folder, family, networks, count, space=None):
-    """Files of addresses, one for each mix; that of `anywhere` only if the space is given."""
-    mixes = feeds.MIXES if space else feeds.MIXES[:2]
+def asked(folder, family, networks, count, mixes, space=None):
+    """Files of addresses, one for each of the mixes. Addresses anywhere are drawn from the space."""
     paths = [folder / f"asked-{family}-{mix}" for mix in mixes]
     for path, mix in zip(paths, mixes):
         path.write_text("".join(f"{address}\n" for address in feeds.addresses(networks, mix, count, space)))

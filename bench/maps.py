@@ -55,7 +55,7 @@ def python_with_radix():
 def sides_of(bench, programs, family, count):
     """For each installed side, a function that runs it."""
     stored, taken = lists(family, count)
-    asked = calls.asked(bench.folder, family, stored, bench.asked)
+    asked = calls.asked(bench.folder, family, stored, bench.asked, ("even", "Zipf"))
     given, alone, routes = (bench.folder / name for name in ("given", "stored", "routes"))
     given.write_text("\n\n".join(["\n".join(stored), *(path.read_text().strip() for path in asked), "\n".join(taken)]))
     alone.write_text("\n".join(stored))
