@@ -1,4 +1,5 @@
 """The part on the calls of the C library on a real feed, timed by c/bench.c, compared with those of DPDK and of the Rust crate's map."""
+import os
 import shutil
 import subprocess
 import sys
@@ -16,6 +17,7 @@ WAYS = (("routes", "match", "index", "over the table"), ("crate", "match", "inde
         ("rib", "match", "index", "over `rte_rib`"), ("fib", "index", "index", "over `rte_fib`"),
         ("fib", "index_many", "index_many", "64, over `rte_fib`"))
 
+READERS = 8
 SPACES = {"v4": "0.0.0.0/0", "v6": "2000::/3"}
 # Other tables: a name, the block that contains all networks, their length, and their number.
 SPREAD = (("/24", "0.0.0.0/0", 24, 1_000_000), ("/25", "0.0.0.0/0", 25, 1_000_000), ("/32", "0.0.0.0/0", 32, 1_000_000),
@@ -39,6 +41,10 @@ from the networks, or anywhere from the block."""
 
 MADE = """Tables of one family each give these indexes in {made:.0f} ms together, {ratio:.3f} of the {lead:.2f} s in which `routes lead` loads
 the feed beside them, its output to a file."""
+
+
+TOGETHER = """{readers} threads that look up addresses in one index at the same time on {cores} processors, each by a handle of its own, make
+{v4:.1f} times as many lookups as one thread for IPv4, and {v6:.1f} times as many for IPv6, 64 in a call, by the clock."""
 
 
 def adds_of(feed, family):
@@ -79,6 +85,12 @@ def made(parts, lead):
     """The time for making the indexes, compared with the leader's time."""
     seconds = sum(count * least["routes", "index_open", None] for count, least in parts.values()) / 1e9
     return MADE.format(made=1000 * seconds, ratio=seconds / lead, lead=lead)
+
+
+def together(parts):
+    """How many times as many lookups several readers make in a time, compared with one."""
+    times = {family: READERS * least["routes", "reader", "even"] / least["routes", "readers", "even"] for family, (_, least) in parts.items()}
+    return TOGETHER.format(readers=READERS, cores=os.cpu_count(), **times)
 
 
 def changes(parts):
@@ -148,6 +160,7 @@ def measured(bench):
         page.table(["addresses", "look-up", *SIDES.values()], look_ups(parts)),
         page.filled(RATIOS),
         page.table(["addresses", *(title for *_, title in WAYS)], ratios(parts)),
+        page.filled(together(parts)),
         page.filled(load.told(bench.runs)),
     ]
     with measure.Others() as load:

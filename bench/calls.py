@@ -10,6 +10,8 @@ from measure import fail, in_turns, run
 # Nanoseconds for one call, {(call, mix): ns}, without a mix for changes and walks; and the results of the calls, as pairs of a name and
 # a number.
 Calls = namedtuple("Calls", "times results")
+# Figures of one side, without a result.
+ALONE = ("table_bytes", "index_bytes", "reader", "readers")
 
 
 def build(root, folder, library=None):
@@ -23,7 +25,7 @@ def build(root, folder, library=None):
         return None, ()
     ours = [library / "libroutes.a"] if library else ["-DNO_LIBRARY"]
     program = folder / f"c_bench{'' if library else '_alone'}"
-    run([compiler, "-std=c11", "-O2", f"-I{root}/include", root / "c/bench.c", *ours, *dpdk, "-o", program])
+    run([compiler, "-std=c11", "-O2", "-pthread", f"-I{root}/include", root / "c/bench.c", *ours, *dpdk, "-o", program])
     return program, (("routes",) if library else ()) + (("rib", "fib") if dpdk else ())
 
 
@@ -34,8 +36,9 @@ def of_lines(lines, mixes=feeds.MIXES):
         mix = mixes[int(file) - 1] if int(file) else None
         if call != "matched":
             calls.times[call, mix] = float(taken)
-            call = "hops" if mix else "add" if call == "index_open" else call
-        calls.results.append((named(call, mix), int(result)))
+        if call not in ALONE:
+            name = call if call == "matched" or not mix else "hops"
+            calls.results.append((named("add" if name == "index_open" else name, mix), int(result)))
     return calls
 
 

@@ -7,7 +7,8 @@
  * made for each line of its file; the dels are in another order than the adds. A line `CALL FILE NANOSECONDS RESULT` gives the CPU time of
  * one call. FILE counts the files of addresses from 1, and is 0 for changes. RESULT is a checksum of all hops that the lookups returned,
  * or the number of networks stored after the changes. Lines `table_bytes 0 BYTES 0` and `index_bytes 0 BYTES 0` give the memory that the
- * library allocated for a network, by glibc's account. At the end a line `matched FILE 0 SUM` gives the sum, over the addresses that a
+ * library allocated for a network, by glibc's account. Lines `reader FILE NANOSECONDS 0` and `readers FILE NANOSECONDS 0` give the time
+ * by the clock of one lookup, 64 in a call, if one thread looks up the addresses in an index, and if READERS do so at once. At the end a line `matched FILE 0 SUM` gives the sum, over the addresses that a
  * network contains, of the longest such network's line number, from 0, and its length. */
 #ifndef _GNU_SOURCE
 #define _GNU_SOURCE
@@ -15,6 +16,7 @@
 #include "routes.h"
 #include <arpa/inet.h>
 #include <malloc.h>
+#include <pthread.h>
 #include <stdio.h>
 #include <stdlib.h>
 #include <string.h>
@@ -30,6 +32,7 @@
 #endif
 
 #define MANY 64
+#define READERS 8
 
 struct line {
     uint64_t high, low, hop;
@@ -252,6 +255,40 @@ static void matched(const struct lines *lines, const struct asked *asked, int fi
     held(routes_open(&table) == ROUTES_OK, "open");
 }
 
+/* A thread that looks up the addresses, by a handle of its own. */
+struct reader {
+    pthread_t thread;
+    routes_index index;
+    const struct asked *asked;
+};
+
+static void *reads(void *given) {
+    struct reader *reader = given;
+    const struct asked *a = reader->asked;
+    uint64_t hops[MANY];
+    for (size_t i = 0; i < a->count; i += MANY) {
+        if (is_v6) routes_index_hop6_many(&reader->index, a->v6 + i, part(a, i), hops, MANY);
+        else routes_index_hop4_many(&reader->index, a->v4 + i, part(a, i), hops, MANY);
+    }
+    return NULL;
+}
+
+/* The nanoseconds by the clock until so many readers have looked up all addresses. */
+static double read_by(int readers, const struct asked *asked) {
+    struct reader all[READERS];
+    struct timespec from, to;
+    for (int i = 0; i < readers; i++) {
+        all[i] = (struct reader){.index = ROUTES_INDEX, .asked = asked};
+        held(routes_index_share(&all[i].index, &indexed) == ROUTES_OK, "share");
+    }
+    clock_gettime(CLOCK_MONOTONIC, &from);
+    for (int i = 0; i < readers; i++) held(pthread_create(&all[i].thread, NULL, reads, all + i) == 0, "thread");
+    for (int i = 0; i < readers; i++) pthread_join(all[i].thread, NULL);
+    clock_gettime(CLOCK_MONOTONIC, &to);
+    for (int i = 0; i < readers; i++) routes_index_close(&all[i].index);
+    return (double)(to.tv_sec - from.tv_sec) * 1e9 + (double)(to.tv_nsec - from.tv_nsec);
+}
+
 static void routes(const struct lines *lines, struct asked *asked, int files) {
     struct lines other = shuffled(lines);
     double before = allocated();
@@ -270,6 +307,8 @@ static void routes(const struct lines *lines, struct asked *asked, int files) {
     for (int i = 0; i < files; i++) {
         looked_up("index", i + 1, is_v6 ? hop6 : hop4, asked + i);
         looked_up("index_many", i + 1, is_v6 ? hop6_many : hop4_many, asked + i);
+        told("reader", i + 1, read_by(1, asked + i), asked[i].count, 0);
+        told("readers", i + 1, read_by(READERS, asked + i), asked[i].count, 0);
     }
     routes_index_close(&indexed);
     changed("del", is_v6 ? del6 : del4, &other, stored);
