@@ -1,5 +1,5 @@
 -- The route of a block itself: its operation, and that a block with one needs the same operations whatever it inherits.
-use Rattle.std.proofs.Common.{◌≡◌, ℕ, ◌+◌, ◌≤◌, Bool, true, false, List, [], ◌∷◌, Option, Some, None, refl, sym, ap, ap₂, ◌∙◌, subst, arith, inl, inr, ◌⊎◌, ⊎_elim}
+use Rattle.std.proofs.Common.{◌≡◌, ℕ, ◌+◌, ◌≤◌, Bool, true, false, List, [], ◌∷◌, Option, Some, None, refl, sym, ap, ap₂, ◌∙◌, subst, arith, ⊎_elim}
 use Rattle.least_table.specs.Tables.{Absent, IsTable, hop_under, Gives, half, own, passed}
 use Rattle.least_table.specs.Wholes.{bare, with_own}
 use Rattle.least_table.specs.Nearest.{IsFewest, distance}
@@ -104,10 +104,6 @@ two_values_law w h t table s k m n a b =
     let u = turned w h t table s k v.0 v.1 in
     omega (arith, a.least u.0 u.1, u.2, v.2)
 
--- a route is one operation away from any other, and from none
-held_apart : (k : Option ℕ) (o : Option (Option ℕ)) → (o ≡ Some k) ⊎ (change (Some k) o ≡ 1)
-held_apart k o = ⊎_elim (λ e. inl (sym e)) (λ e. inr e) (change_cases (Some k) o)
-
 module _ (w : ℕ) (h : List Bool → Option ℕ) (t : List (List Bool × Option ℕ)) (table : IsTable w t) (k : Option ℕ) (held : own t ≡ Some k) (s : Option ℕ) (n : ℕ) (inner : IsFewest w h (bare t) k n) where
   plain : IsTable w (bare t)
   plain = IsTable-bare w t table
@@ -138,7 +134,7 @@ module _ (w : ℕ) (h : List Bool → Option ℕ) (t : List (List Bool × Option
       same e = omega (arith, inner.least v' (subst (λ p. Gives w h p v') (ap (passed s) e) g'), from_bare v' g'.table, ap (change None) (own-bare v), below-bare_right t v)
 
       go : (o : Option (Option ℕ)) → own v ≡ o → n ≤ distance t v
-      go o e = ⊎_elim (λ f. omega (arith, same (e ∙ f), from_held v g.table)) (λ f. omega (arith, at (passed s (own v)) refl, from_held v g.table, ap (change (Some k)) e, f)) (held_apart k o)
+      go o e = ⊎_elim (λ f. omega (arith, same (e ∙ sym f), from_held v g.table)) (λ f. omega (arith, at (passed s (own v)) refl, from_held v g.table, ap (change (Some k)) e, f)) (change_cases (Some k) o)
 
   reached : (u : List (List Bool × Option ℕ)) × Gives w h s u × (distance t u ≤ n)
   reached = go (own inner.reached.0) refl

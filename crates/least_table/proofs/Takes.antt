@@ -1,12 +1,13 @@
 -- The steps of the plan of a block are taken: those of its halves, or of the smaller block, stand before its own.
 use Rattle.std.proofs.Common.{◌≡◌, ℕ, suc, ◌+◌, ◌<◌, Bool, true, false, cond, not, List, [], ◌∷◌, ◌++◌, length, reverse, Option, refl, sym, ap, ap₂, ◌∙◌, subst, arith, append_assoc, append-nil, length-append, map}
 use Rattle.std.proofs.lemmas.List.{reverse-append, reverse-reverse}
+use Rattle.least_table.specs.BestHops.{Of, passed_on}
 use Rattle.least_table.specs.HopSets.{holds, same_hop, first_of}
 use Rattle.least_table.specs.Pieces.{strings}
 use Rattle.least_table.specs.Trees.{inside, within, routes_of}
 use Rattle.least_table.specs.Trees as trees
 use Rattle.least_table.specs.InnerPacked.{AreWhole, IsKept, step_of, steps_in}
-use Rattle.least_table.specs.InnerSteps.{Step, passed, step_best}
+use Rattle.least_table.specs.InnerSteps.{Step, step_best}
 use Rattle.least_table.specs.InnerPlans.{Plan, Leaf, Pair, Fork, Half, Skip, EndsIn, Stores, Fits, steps_of, top, tree_of}
 use Rattle.least_table.specs.InnerShapes.{shape_of}
 use Rattle.least_table.specs.declared.plan.Packed.{Packed}
@@ -210,7 +211,7 @@ other_half q u j k e = ap (λ t. cond {A = List (List Bool × Option ℕ)} (same
 together : {X : Type 0} (as' bs cs ds : List X) → as' ++ (bs ++ (cs ++ ds)) ≡ (as' ++ (bs ++ cs)) ++ ds
 together as' bs cs ds = ap (λ t. as' ++ t) (sym (append_assoc bs cs ds)) ∙ sym (append_assoc as' (bs ++ cs) ds)
 
-module _ (b : List Bool) (s k : Option ℕ) (is_new : Bool) (hops : List (Option ℕ)) (e : k ≡ passed hops s) (f : is_new ≡ not (holds hops s)) where
+module _ (b : List Bool) (s k : Option ℕ) (is_new : Bool) (hops : List (Option ℕ)) (e : k ≡ passed_on (Of hops) s) (f : is_new ≡ not (holds hops s)) where
   own : (rs ts : List (List Bool × Option ℕ)) → ts ≡ cond is_new ((b, k) ∷ []) [] ++ rs → ts ≡ cond (holds hops s) [] ((b, first_of hops) ∷ []) ++ rs
   own rs ts i = i ∙ ap (λ l. l ++ rs) (ap₂ (λ n j. cond {A = List (List Bool × Option ℕ)} n ((b, j) ∷ []) []) f e ∙ own_route (holds hops s) b s (first_of hops))
 
@@ -218,7 +219,7 @@ module _ (b : List Bool) (s k : Option ℕ) (is_new : Bool) (hops : List (Option
       → r3 ≡ within b (cond (holds hops s) (inside false (L s) ++ inside true (H s)) (([], first_of hops) ∷ inside false (L (first_of hops)) ++ inside true (H (first_of hops)))) ++ r0
   fork_routes L H r0 r1 r2 r3 g h i =
       own r2 r3 i ∙ ap (λ t. route ++ t) (h ∙ ap (λ t. within (b ++ false ∷ []) (L k) ++ t) g) ∙ together route (within (b ++ false ∷ []) (L k)) (within (b ++ true ∷ []) (H k)) r0
-      ∙ ap (λ t. t ++ r0) (ap (λ j. route ++ (within (b ++ false ∷ []) (L j) ++ within (b ++ true ∷ []) (H j))) e ∙ fork_stored (holds hops s) b L H s (first_of hops))
+      ∙ ap (λ t. t ++ r0) (ap (λ j. route ++ (within (b ++ false ∷ []) (L j) ++ within (b ++ true ∷ []) (H j))) e ∙ fork_stored (holds hops s) b L H s (first_of hops) (first_of hops))
     where
       route : List (List Bool × Option ℕ)
       route = cond (holds hops s) [] ((b, first_of hops) ∷ [])
@@ -290,7 +291,7 @@ module _ (b : List Bool) (s k : Option ℕ) (is_new : Bool) (hops : List (Option
     }
       where
         hop_is : k ≡ d.hop
-        hop_is = e ∙ ap (λ ks. passed ks s) one ∙ one_passed d.hop s
+        hop_is = e ∙ ap (λ ks. passed_on (Of ks) s) one ∙ one_passed d.hop s
 
         there : within q (routes_of (tree_of d.inner) k) ≡ within (b ++ ds) (routes_of (tree_of d.inner) d.hop)
         there = ap₂ (λ u j. within u (routes_of (tree_of d.inner) j)) g hop_is

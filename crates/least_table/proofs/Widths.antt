@@ -1,11 +1,11 @@
 -- Plans of blocks, by those of their halves.
-use Rattle.std.proofs.Common.{◌≡◌, ℕ, ◌+◌, inl, inr, Bool, true, false, List, [], ◌∷◌, length, Option, refl, arith}
-use Rattle.ipnet_blocks.specs.BitStrings.{begins}
+use Rattle.std.proofs.Common.{◌≡◌, ℕ, suc, ◌+◌, inl, inr, Bool, true, false, not, List, [], ◌∷◌, length, Option, refl, arith}
 use Rattle.least_table.specs.BestHops.{Of, AreMerged}
 use Rattle.least_table.specs.HopSets.{holds}
 use Rattle.least_table.specs.InnerPlans.{Plan, Leaf, Pair, Fork, Half, Skip, OfHalf, OfHalves, top, tree_of}
 use Rattle.least_table.specs.InnerSteps.{step_best}
-use Rattle.least_table.specs.Trees.{best}
+use Rattle.least_table.specs.Tables.{half_of}
+use Rattle.least_table.specs.Trees.{best, IsPlan, OneOutside}
 use Rattle.least_table.proofs.Chains.{merged_swap}
 
 pub best_of_tree : (p : Plan) → best (tree_of p) ≡ step_best (top p)
@@ -35,85 +35,37 @@ pub beside : (upper : Bool) (k : Option ℕ) (p : Plan) (hops : List (Option ℕ
 beside true k p hops m = λ v h l r. (v, refl, rw (best_of_tree p) m, l, r)
 beside false k p hops m = λ v h l r. (v, refl, rw (best_of_tree p) (merged_swap (k ∷ []) (step_best (top p)) hops m), l, r)
 
--- the hop is one of those that the other half is best handed
-single_true : (k : Option ℕ) (p : Plan) → holds (step_best (top p)) k ≡ true → OfHalf true k p (Skip k (true ∷ []) p)
-single_true k p e v h l r = (v, omega arith, (omega arith, inl (rw (best_of_tree p) e)), outside, r)
-  where
-    outside : (x : List Bool) → length x ≡ 1 + v → begins (true ∷ []) x ≡ false → h x ≡ k
-    outside [] i f = absurd (omega (arith, i))
-    outside (false ∷ x) i f = l x (omega (arith, i))
-    outside (true ∷ x) i f = cc
+abbrev One : ℕ → (List Bool → Option ℕ) → Option ℕ → Type 0
+One w h k = (x : List Bool) → length x ≡ w → h x ≡ k
 
-single_false : (k : Option ℕ) (p : Plan) → holds (step_best (top p)) k ≡ true → OfHalf false k p (Skip k (false ∷ []) p)
-single_false k p e v h l r = (v, omega arith, (omega arith, inl (rw (best_of_tree p) e)), outside, l)
-  where
-    outside : (x : List Bool) → length x ≡ 1 + v → begins (false ∷ []) x ≡ false → h x ≡ k
-    outside [] i f = absurd (omega (arith, i))
-    outside (true ∷ x) i f = r x (omega (arith, i))
-    outside (false ∷ x) i f = cc
+of_half : (upper : Bool) (k : Option ℕ) (p r : Plan)
+    → ((v : ℕ) (h : List Bool → Option ℕ) → IsPlan v (half_of upper h) (tree_of p) → One v (half_of (not upper) h) k → IsPlan (suc v) h (tree_of r)) → OfHalf upper k p r
+of_half true k p r f = λ v h l i. f v h i l
+of_half false k p r f = f
 
+-- the addresses outside a smaller block, by those in its half and those in the other half
+outside : (upper : Bool) (ds : List Bool) (v : ℕ) (h : List Bool → Option ℕ) (k : Option ℕ) → OneOutside (length ds + v) (half_of upper h) ds k → One (length ds + v) (half_of (not upper) h) k → OneOutside (length (upper ∷ ds) + v) h (upper ∷ ds) k
+outside upper ds v h k inner other [] l f = absurd (omega (arith, l))
+outside true ds v h k inner other (true ∷ x) l f = inner x (omega (arith, l)) f
+outside true ds v h k inner other (false ∷ x) l f = other x (omega (arith, l))
+outside false ds v h k inner other (false ∷ x) l f = inner x (omega (arith, l)) f
+outside false ds v h k inner other (true ∷ x) l f = other x (omega (arith, l))
+
+-- the hop is one of the best ones of the cut half
 pub single : (upper : Bool) (k : Option ℕ) (p : Plan) → holds (step_best (top p)) k ≡ true → OfHalf upper k p (Skip k (upper ∷ []) p)
-single true k p e = single_true k p e
-single false k p e = single_false k p e
+single upper k p e = of_half upper k p (Skip k (upper ∷ []) p) (λ v h i l. (v, omega arith, (omega arith, inl (rw (best_of_tree p) e)), outside upper [] v h k (λ x j f. cc) (λ x j. l x (omega (arith, j))), i))
 
--- the other half leads to a smaller block past the same hop
-longer_true : (k : Option ℕ) (ds : List Bool) (p : Plan) → OfHalf true k (Skip k ds p) (Skip k (true ∷ ds) p)
-longer_true k ds p v h l r = (r.0, omega (arith, r.1), (omega arith, inr (omega (arith, r.2.0))), outside, r.4)
-  where
-    outside : (x : List Bool) → length x ≡ length (true ∷ ds) + r.0 → begins (true ∷ ds) x ≡ false → h x ≡ k
-    outside [] i f = absurd (omega (arith, i))
-    outside (false ∷ x) i f = l x (omega (arith, i, r.1))
-    outside (true ∷ x) i f = r.3 x (omega (arith, i)) f
-
-longer_false : (k : Option ℕ) (ds : List Bool) (p : Plan) → OfHalf false k (Skip k ds p) (Skip k (false ∷ ds) p)
-longer_false k ds p v h l r = (l.0, omega (arith, l.1), (omega arith, inr (omega (arith, l.2.0))), outside, l.4)
-  where
-    outside : (x : List Bool) → length x ≡ length (false ∷ ds) + l.0 → begins (false ∷ ds) x ≡ false → h x ≡ k
-    outside [] i f = absurd (omega (arith, i))
-    outside (true ∷ x) i f = r x (omega (arith, i, l.1))
-    outside (false ∷ x) i f = l.3 x (omega (arith, i)) f
-
+-- the cut half leads to a smaller block past the same hop
 pub longer : (upper : Bool) (k : Option ℕ) (ds : List Bool) (p : Plan) → OfHalf upper k (Skip k ds p) (Skip k (upper ∷ ds) p)
-longer true k ds p = longer_true k ds p
-longer false k ds p = longer_false k ds p
+longer upper k ds p = of_half upper k (Skip k ds p) (Skip k (upper ∷ ds) p) (λ v h i l. (i.0, omega (arith, i.1), (omega arith, inr (omega (arith, i.2.0))), outside upper ds i.0 h k i.3 (λ x j. l x (omega (arith, j, i.1))), i.4))
 
--- the other half has one half with the same hop
-doubled_true : (half : Bool) (k : Option ℕ) (hops : List (Option ℕ)) (p : Plan) → OfHalf true k (Half half k hops p) (Skip k (true ∷ half ∷ []) p)
-doubled_true true k hops p v h l r = (r.0, omega (arith, r.1), (omega arith, inr (omega arith)), outside, r.4)
-  where
-    outside : (x : List Bool) → length x ≡ 2 + r.0 → begins (true ∷ true ∷ []) x ≡ false → h x ≡ k
-    outside [] i f = absurd (omega (arith, i))
-    outside (false ∷ x) i f = l x (omega (arith, i, r.1))
-    outside (true ∷ []) i f = absurd (omega (arith, i))
-    outside (true ∷ false ∷ x) i f = r.3 x (omega (arith, i))
-    outside (true ∷ true ∷ x) i f = cc
-doubled_true false k hops p v h l r = (r.0, omega (arith, r.1), (omega arith, inr (omega arith)), outside, r.3)
-  where
-    outside : (x : List Bool) → length x ≡ 2 + r.0 → begins (true ∷ false ∷ []) x ≡ false → h x ≡ k
-    outside [] i f = absurd (omega (arith, i))
-    outside (false ∷ x) i f = l x (omega (arith, i, r.1))
-    outside (true ∷ []) i f = absurd (omega (arith, i))
-    outside (true ∷ true ∷ x) i f = r.4 x (omega (arith, i))
-    outside (true ∷ false ∷ x) i f = cc
-
-doubled_false : (half : Bool) (k : Option ℕ) (hops : List (Option ℕ)) (p : Plan) → OfHalf false k (Half half k hops p) (Skip k (false ∷ half ∷ []) p)
-doubled_false true k hops p v h l r = (l.0, omega (arith, l.1), (omega arith, inr (omega arith)), outside, l.4)
-  where
-    outside : (x : List Bool) → length x ≡ 2 + l.0 → begins (false ∷ true ∷ []) x ≡ false → h x ≡ k
-    outside [] i f = absurd (omega (arith, i))
-    outside (true ∷ x) i f = r x (omega (arith, i, l.1))
-    outside (false ∷ []) i f = absurd (omega (arith, i))
-    outside (false ∷ false ∷ x) i f = l.3 x (omega (arith, i))
-    outside (false ∷ true ∷ x) i f = cc
-doubled_false false k hops p v h l r = (l.0, omega (arith, l.1), (omega arith, inr (omega arith)), outside, l.3)
-  where
-    outside : (x : List Bool) → length x ≡ 2 + l.0 → begins (false ∷ false ∷ []) x ≡ false → h x ≡ k
-    outside [] i f = absurd (omega (arith, i))
-    outside (true ∷ x) i f = r x (omega (arith, i, l.1))
-    outside (false ∷ []) i f = absurd (omega (arith, i))
-    outside (false ∷ true ∷ x) i f = l.4 x (omega (arith, i))
-    outside (false ∷ false ∷ x) i f = cc
-
+-- the cut half has one half with the same hop
 pub doubled : (upper half : Bool) (k : Option ℕ) (hops : List (Option ℕ)) (p : Plan) → OfHalf upper k (Half half k hops p) (Skip k (upper ∷ half ∷ []) p)
-doubled true half k hops p = doubled_true half k hops p
-doubled false half k hops p = doubled_false half k hops p
+doubled upper half k hops p = of_half upper k (Half half k hops p) (Skip k (upper ∷ half ∷ []) p) (by half)
+  where
+    twice : (half : Bool) (v w : ℕ) (h : List Bool → Option ℕ) → w ≡ suc v → One v (half_of (not half) (half_of upper h)) k → IsPlan v (half_of half (half_of upper h)) (tree_of p) → One w (half_of (not upper) h) k → IsPlan (suc w) h (tree_of (Skip k (upper ∷ half ∷ []) p))
+    twice half v w h e one i l = (v, omega (arith, e), (omega arith, inr (omega arith)), outside upper (half ∷ []) v h k (outside half [] v (half_of upper h) k (λ x j f. cc) (λ x j. one x (omega (arith, j)))) (λ x j. l x (omega (arith, j, e))), i)
+
+    by : (half : Bool) (w : ℕ) (h : List Bool → Option ℕ) → IsPlan w (half_of upper h) (tree_of (Half half k hops p)) → One w (half_of (not upper) h) k → IsPlan (suc w) h (tree_of (Skip k (upper ∷ half ∷ []) p))
+    by true w h i l = twice true i.0 w h i.1 i.3 i.4 l
+    by false w h i l = twice false i.0 w h i.1 i.4 i.3 l

@@ -18,6 +18,10 @@ abbrev pub first : Hops → Option ℕ
 first Any = None
 first (Of ks) = first_of ks
 
+-- the hop that a block without a route passes on: s if that is one of them, else the first of them
+abbrev pub passed_on : Hops → Option ℕ → Option ℕ
+passed_on hops s = cond (wants hops s) s (first hops)
+
 -- whether the two have a hop in common
 abbrev pub agree : Hops → Hops → Bool
 agree Any b = true

@@ -1,6 +1,5 @@
 -- The steps of a plan.
-use Rattle.std.specs.Prelude.{◌≡◌, ℕ, ◌<◌, ◌^◌, Bool, cond, List, [], ◌∷◌, Option, All, IfSome, IsTrue}
-use Rattle.least_table.specs.HopSets.{holds, first_of}
+use Rattle.std.specs.Prelude.{◌≡◌, ℕ, ◌<◌, ◌^◌, Bool, List, [], ◌∷◌, Option, All, IfSome, IsTrue}
 
 -- A block whose addresses all have one hop. A block whose halves have one hop each, and its best inherited hops. A block cut into halves,
 -- the lower first, and its best inherited hops. A block of which one half is cut further, the upper one if the test is true, while the
@@ -19,10 +18,6 @@ step_best (Pair j k hops) = hops
 step_best (Fork hops) = hops
 step_best (Half upper k hops) = hops
 step_best (Skip k ds) = k ∷ []
-
--- the hop that the block passes on: s if that is one of the best, else the first of these
-abbrev pub passed : List (Option ℕ) → Option ℕ → Option ℕ
-passed hops s = cond (holds hops s) s (first_of hops)
 
 -- each network has zeros after its bits, and its hop is a number of 32 bits or none
 abbrev pub AreNetworks : {B : Type 0} → (B → Bool) → (List Bool → B) → (B → List Bool) → List (B × Option ℕ) → Type 0

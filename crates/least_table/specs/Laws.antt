@@ -38,7 +38,7 @@ abbrev pub SetsLaw : Type 0
 SetsLaw = (w : ℕ) (h : List Bool → Option ℕ) (t : List (List Bool × Option ℕ)) → IsTable (w + 1) t → own t ≡ None → (a b c : Hops) (m n : ℕ) →
     AreBest w (half_of false h) (half t false) a m → AreBest w (half_of true h) (half t true) b n → AreMerged a b c → AreBest (w + 1) h t c (m + n + fee (agree a b))
 
--- several levels without a route, whose other halves all have the hop k, in one step
+-- if no route is installed: several levels whose other halves all have the hop k, in one step
 abbrev pub ChainLaw : Type 0
 ChainLaw = (ds : List Bool) (v : ℕ) (h : List Bool → Option ℕ) (k : Option ℕ) (hops : List (Option ℕ)) (m : ℕ) →
     AreBest v (inner_of ds h) [] (Of hops) m → OneOutside (length ds + v) h ds k → AreBest (length ds + v) h [] (Of (chain_hops k hops ds)) (m + chain_fee k hops ds)

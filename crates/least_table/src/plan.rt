@@ -1,6 +1,6 @@
 //! Plans: the best inherited hops of each block, as a sequence of steps.
 ghost use Rattle.std.specs.Prelude.{◌≡◌, ◌-◌, ◌<◌, ◌≤◌, ◌++◌, ◌∷◌, [], List, ℕ, None, Option, Some, Bool, drop, length, IfOk, IfSome, MatchOption, OnOk, not, true};
-ghost use Rattle.least_table.specs.BestHops.{Of, AreMerged};
+ghost use Rattle.least_table.specs.BestHops.{Of, AreMerged, passed_on};
 ghost use Rattle.least_table.specs.HopSets.{first_of, holds};
 ghost use Rattle.least_table.specs.InnerPacked.{AreWhole, Grows, IsAlways, IsKept, IsWider, best_at, hops_in, step_of, steps_in};
 ghost use Rattle.least_table.specs.InnerHops.{members};
@@ -10,7 +10,7 @@ ghost use Rattle.least_table.specs.InnerPlans.{Ends, EndsIn, IsHeld, OfHalf, OfH
 ghost use Rattle.least_table.specs.InnerRising.{IsRising};
 ghost use Rattle.least_table.specs.InnerShapes.{shape_of};
 ghost use Rattle.least_table.specs.declared.plan.Planned.TheVariants as planned;
-ghost use Rattle.least_table.specs.InnerSteps.{Leaf, Fork, Half, Skip, Step, AreNetworks, passed, step_best};
+ghost use Rattle.least_table.specs.InnerSteps.{Leaf, Fork, Half, Skip, Step, AreNetworks, step_best};
 
 use crate::bits::bit;
 use crate::hops::{Hops, first, is_among, merge, others, second};
@@ -413,7 +413,7 @@ impl Steps {
     /// The hop that a block passes on to its parts if it inherits `handed`, and whether it needs a route for that.
     fn choice(&self, step: Packed, handed: Option<u32>) -> (Option<u32>, bool)
         requires { IsKept self.now.sets step }
-        ensures hop { result.0 ≡ passed (step_best (step_of self.now.sets step)) handed }
+        ensures hop { result.0 ≡ passed_on (Of (step_best (step_of self.now.sets step))) handed }
         ensures route { result.1 ≡ not (holds (step_best (step_of self.now.sets step)) handed) }
     {
         let best = self.best(step);

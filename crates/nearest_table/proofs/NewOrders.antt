@@ -11,9 +11,8 @@ use Rattle.least_table.proofs.Split.{joined, own-joined, IsTable-half}
 use Rattle.least_table.proofs.Makes.{own_covers}
 use Rattle.least_table.proofs.Orders.{IsInOrder-joined, IsInOrder-with}
 use Rattle.least_table.proofs.Owns.{IsTable-bare, own-bare}
-use Rattle.nearest_table.proofs.Trees.{Best-plan, plain}
+use Rattle.nearest_table.proofs.Trees.{first_best, plain}
 use Rattle.nearest_table.proofs.TreeEdits.{ordered_bare, ordered_half}
-use Rattle.least_table.proofs.Merges.{first-wanted}
 
 either : (v : Bool) (x y : List (List Bool × Option ℕ)) → IsInOrder x → IsInOrder y → IsInOrder (cond v x y)
 either true x y h k = h
@@ -26,7 +25,7 @@ held_ordered w h t k p table plan inner s = go (wants (best p) k) (wants (best p
     nothing c e = plain w h (bare t) p plan (own-bare t) c e
 
     some : wants (best p) (first (best p)) ≡ true
-    some = let c = (Best-plan w h (bare t) p (IsTable-bare w t table) plan).some in first-wanted (best p) c.0 c.1
+    some = first_best w h (bare t) p (IsTable-bare w t table) plan
 
     go : (u v : Bool) → wants (best p) k ≡ u → wants (best p) s ≡ v → IsInOrder (cond u (([], k) ∷ new_table p (bare t) k) (cond v (new_table p (bare t) s) (([], first (best p)) ∷ new_table p (bare t) (first (best p)))))
     go true v e f = IsInOrder-with (Some k) (new_table p (bare t) k) (nothing k e) (inner k)

@@ -1,22 +1,10 @@
 -- The edits of a block and of its halves are those of its plan.
-use Rattle.std.proofs.Common.{◌≡◌, ℕ, Bool, true, false, cond, List, [], ◌∷◌, ◌++◌, Option, Some, sym, ap, ap₂, ◌∙◌, append_assoc, append-nil, Result, Ok, Err, OnOk}
-use Rattle.least_table.specs.BestHops.{Hops, first, wants}
+use Rattle.std.proofs.Common.{◌≡◌, ℕ, Bool, true, false, List, [], ◌∷◌, ◌++◌, Option, Some, ap, ap₂, ◌∙◌, append_assoc, Result, Ok, Err, OnOk}
+use Rattle.least_table.specs.BestHops.{Hops, first, passed_on, wants}
 use Rattle.nearest_table.specs.Plans.{Tree, Fork, edits_of}
-use Rattle.least_table.specs.Trees.{inside, within}
-use Rattle.nearest_table.specs.Settled.{passed_on, settled}
-use Rattle.least_table.proofs.Stores.{within-halves}
-
-fork_within : (b : List Bool) (hops : Hops) (l r : Tree) (s : Option ℕ)
-    → within b (edits_of (Fork hops l r) s) ≡ settled b hops s ++ (within (b ++ false ∷ []) (edits_of l (passed_on hops s)) ++ within (b ++ true ∷ []) (edits_of r (passed_on hops s)))
-fork_within b hops l r s = go (wants hops s)
-  where
-    f : Option ℕ
-    f = first hops
-
-    go : (v : Bool) → within b (cond v (inside false (edits_of l s) ++ inside true (edits_of r s)) (([], Some (first hops)) ∷ inside false (edits_of l (first hops)) ++ inside true (edits_of r (first hops))))
-        ≡ cond v [] ((b, Some (first hops)) ∷ []) ++ (within (b ++ false ∷ []) (edits_of l (cond v s (first hops))) ++ within (b ++ true ∷ []) (edits_of r (cond v s (first hops))))
-    go true = within-halves b (edits_of l s) (edits_of r s)
-    go false = ap₂ (λ x y. (x, Some (first hops)) ∷ y) (append-nil b) (within-halves b (edits_of l (first hops)) (edits_of r (first hops)))
+use Rattle.least_table.specs.Trees.{within}
+use Rattle.nearest_table.specs.Settled.{settled}
+use Rattle.least_table.proofs.GrownStores.{fork_stored}
 
 pub carried_fork : (b b0 b1 : List Bool) (hops h : Hops) (l r : Tree) (s k : Option ℕ) (t0 t1 t2 t3 : List (List Bool × Option (Option ℕ)))
     → h ≡ hops → k ≡ passed_on h s → b0 ≡ b ++ false ∷ [] → b1 ≡ b ++ true ∷ []
@@ -26,7 +14,7 @@ carried_fork b b0 b1 hops h l r s k t0 t1 t2 t3 eh ek e0 e1 f1 f2 f3 =
     f3 ∙ ap₂ (λ t u. t ++ u) (f2 ∙ ap₂ (λ t u. t ++ u) f1 (ap₂ (λ d j. within d (edits_of l j)) e0 ek)) (ap₂ (λ d j. within d (edits_of r j)) e1 ek)
     ∙ append_assoc (t0 ++ settled b h s) (within (b ++ false ∷ []) (edits_of l (passed_on h s))) (within (b ++ true ∷ []) (edits_of r (passed_on h s)))
     ∙ append_assoc t0 (settled b h s) (within (b ++ false ∷ []) (edits_of l (passed_on h s)) ++ within (b ++ true ∷ []) (edits_of r (passed_on h s)))
-    ∙ ap (λ t. t0 ++ t) (ap (λ i. settled b i s ++ (within (b ++ false ∷ []) (edits_of l (passed_on i s)) ++ within (b ++ true ∷ []) (edits_of r (passed_on i s)))) eh ∙ sym (fork_within b hops l r s))
+    ∙ ap (λ t. t0 ++ t) (ap (λ i. settled b i s ++ (within (b ++ false ∷ []) (edits_of l (passed_on i s)) ++ within (b ++ true ∷ []) (edits_of r (passed_on i s)))) eh ∙ fork_stored (wants hops s) b (edits_of l) (edits_of r) s (first hops) (Some (first hops)))
 
 pub on_ok_map : {T E : Type 0} {P Q : Type 0} (r : Result T E) → (P → Q) → OnOk r P → OnOk r Q
 on_ok_map (Ok x) f p = f p

@@ -12,12 +12,11 @@ use Rattle.least_table.specs.Trees.{inside}
 use Rattle.least_table.specs.Tables.{IsTable, half, half_of, own}
 use Rattle.least_table.specs.Wholes.{bare, whole, with_own}
 use Rattle.least_table.proofs.Distances.{has-half, has-own, is_own, stores-half, stores-own}
-use Rattle.least_table.proofs.Sets.{same_hop-refl, same_hop-true}
+use Rattle.least_table.proofs.Sets.{same_hop-refl}
 use Rattle.least_table.proofs.Split.{joined, half-joined, IsTable-half}
 use Rattle.least_table.proofs.Owns.{own-bare, half-bare, own-with, half-with, IsTable-bare}
 use Rattle.least_table.proofs.Makes.{distance-self, own_covers}
-use Rattle.least_table.proofs.Merges.{first-wanted}
-use Rattle.nearest_table.proofs.Trees.{Best-plan, plain}
+use Rattle.nearest_table.proofs.Trees.{first_best, other_hop, plain}
 
 -- ---- tables in order
 
@@ -124,9 +123,6 @@ none_left w t h = empty (surplus t t) (omega (arith, distance-self w t h))
 
 -- ---- edits
 
-blocks_in : Bool → List (List Bool) → List (List Bool)
-blocks_in b = map (λ c. b ∷ c)
-
 blocks-inside : (b : Bool) (t : List (List Bool × Option ℕ)) → blocks (inside b t) ≡ map (λ c. b ∷ c) (blocks t)
 blocks-inside b [] = refl
 blocks-inside b (r ∷ t) = ap (λ u. (b ∷ r.0) ∷ u) (blocks-inside b t)
@@ -216,14 +212,7 @@ module _ (w : ℕ) (h : List Bool → Option ℕ) (t : List (List Bool × Option
   nothing c e = plain w h (bare t) p plan (own-bare t) c e
 
   some : wants (best p) (first (best p)) ≡ true
-  some = let c = (Best-plan w h (bare t) p (IsTable-bare w t table) plan).some in first-wanted (best p) c.0 c.1
-
-  other : wants (best p) k ≡ false → same_hop k (first (best p)) ≡ false
-  other e = go (same_hop k (first (best p))) refl
-    where
-      go : (v : Bool) → same_hop k (first (best p)) ≡ v → v ≡ false
-      go true f = let g : wants (best p) k ≡ true = ap (wants (best p)) (same_hop-true k (first (best p)) f) ∙ some in cc
-      go false f = refl
+  some = first_best w h (bare t) p (IsTable-bare w t table) plan
 
   held_edits : (s : Option ℕ) → AreEdits t (new_table (Held k p) t s) (edits_of (Held k p) s)
   held_edits s = go (wants (best p) k) (wants (best p) s) refl refl
@@ -233,7 +222,7 @@ module _ (w : ℕ) (h : List Bool → Option ℕ) (t : List (List Bool × Option
           (cond u (edits_of p k) (cond v (([], None) ∷ edits_of p s) (([], Some (first (best p))) ∷ edits_of p (first (best p)))))
       go true v e f = edits-kept w t (new_table p (bare t) k) k (edits_of p k) table held (held_first k t order held) (nothing k e) (inner k)
       go false true e f = edits-gone w t (new_table p (bare t) s) k (edits_of p s) table held (held_first k t order held) (nothing s f) (inner s)
-      go false false e f = edits-other w t (new_table p (bare t) (first (best p))) k (edits_of p (first (best p))) table held (held_first k t order held) (nothing (first (best p)) some) (inner (first (best p))) (first (best p)) (other e)
+      go false false e f = edits-other w t (new_table p (bare t) (first (best p))) k (edits_of p (first (best p))) table held (held_first k t order held) (nothing (first (best p)) some) (inner (first (best p))) (first (best p)) (other_hop (best p) k (first (best p)) e some)
 
 plan_edits : (w : ℕ) (h : List Bool → Option ℕ) (t : List (List Bool × Option ℕ)) (p : Tree) → IsTable w t → IsInOrder t → IsPlan w h t p → (s : Option ℕ) → AreEdits t (new_table p t s) (edits_of p s)
 plan_edits w h t (Stay Any) table order plan s = edits-none w t table

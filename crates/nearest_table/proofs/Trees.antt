@@ -1,6 +1,7 @@
 -- The tables that plans make are nearest.
 use Rattle.std.proofs.Common.{◌≡◌, ℕ, suc, ◌+◌, Bool, true, false, cond, List, [], ◌∷◌, length, Option, Some, None, refl, sym, ap, ap₂, ◌∙◌, subst, arith}
-use Rattle.least_table.specs.BestHops.{Of, Any, wants, first, agree, AreBest}
+use Rattle.std.proofs.lemmas.Bool.{false_from_ne_true}
+use Rattle.least_table.specs.BestHops.{Hops, Of, Any, wants, first, agree, AreBest}
 use Rattle.least_table.specs.HopSets.{same_hop, holds, fee, first_of}
 use Rattle.least_table.specs.Nearest.{IsFewest, distance}
 use Rattle.least_table.specs.Tables.{IsTable, half, half_of, hop_of, hop_under, longest, own, passed}
@@ -52,6 +53,13 @@ Best-plan w h t (Held k p) table plan =
       needs = λ s. subst (IsFewest w h t s) (omega arith) (own_fewest w h t table k plan.0 s (count p + fee (wants (best p) k)) (b.needs k));
     }
 
+-- the first best hop is one of them, and so differs from a hop that isn't
+pub first_best : (w : ℕ) (h : List Bool → Option ℕ) (t : List (List Bool × Option ℕ)) (p : Tree) → IsTable w t → IsPlan w h t p → wants (best p) (first (best p)) ≡ true
+first_best w h t p table plan = let k = (Best-plan w h t p table plan).some in first-wanted (best p) k.0 k.1
+
+pub other_hop : (hops : Hops) (k j : Option ℕ) → wants hops k ≡ false → wants hops j ≡ true → same_hop k j ≡ false
+other_hop hops k j e f = false_from_ne_true (same_hop k j) (λ g. let d : wants hops k ≡ true = ap (wants hops) (same_hop-true k j g) ∙ f in cc)
+
 -- the table of a plan has no route of a block that inherits a best hop
 pub plain : (w : ℕ) (h : List Bool → Option ℕ) (t : List (List Bool × Option ℕ)) (p : Tree) → IsPlan w h t p → own t ≡ None → (s : Option ℕ) → wants (best p) s ≡ true → own (new_table p t s) ≡ None
 plain w h t (Stay hops) plan e s f = rw f e
@@ -81,14 +89,7 @@ module _ (w : ℕ) (h : List Bool → Option ℕ) (t : List (List Bool × Option
   }
 
   some : wants (best p) (first (best p)) ≡ true
-  some = let k = (Best-plan w h (bare t) p (IsTable-bare w t table) plan).some in first-wanted (best p) k.0 k.1
-
-  other : wants (best p) k ≡ false → change (Some k) (Some (first (best p))) ≡ 1
-  other e = go (same_hop k (first (best p))) refl
-    where
-      go : (v : Bool) → same_hop k (first (best p)) ≡ v → fee v ≡ 1
-      go true f = let g : wants (best p) k ≡ true = ap (wants (best p)) (same_hop-true k (first (best p)) f) ∙ some in cc
-      go false f = refl
+  some = first_best w h (bare t) p (IsTable-bare w t table) plan
 
   held_makes : (s : Option ℕ) → Makes w h s t (new_table (Held k p) t s) (count p + fee (wants (best p) k) + 0)
   held_makes s = go (wants (best p) k) (wants (best p) s) refl refl
@@ -97,7 +98,7 @@ module _ (w : ℕ) (h : List Bool → Option ℕ) (t : List (List Bool × Option
           → Makes w h s t (cond u (([], k) ∷ new_table p (bare t) k) (cond v (new_table p (bare t) s) (([], first (best p)) ∷ new_table p (bare t) (first (best p))))) (count p + fee u + 0)
       go true v e f = subst (Makes w h s t (([], k) ∷ new_table p (bare t) k)) (omega (arith, change_same (Some k))) (in_place s (Some k) e)
       go false true e f = subst (Makes w h s t (new_table p (bare t) s)) (omega arith) (in_place s None f)
-      go false false e f = subst (Makes w h s t (([], first (best p)) ∷ new_table p (bare t) (first (best p)))) (omega (arith, other e)) (in_place s (Some (first (best p))) some)
+      go false false e f = subst (Makes w h s t (([], first (best p)) ∷ new_table p (bare t) (first (best p)))) (omega (arith, ap fee (other_hop (best p) k (first (best p)) e some))) (in_place s (Some (first (best p))) some)
 
 makes : (w : ℕ) (h : List Bool → Option ℕ) (t : List (List Bool × Option ℕ)) (p : Tree) → IsTable w t → IsPlan w h t p → (s : Option ℕ) → Makes w h s t (new_table p t s) (count p + fee (wants (best p) s))
 makes w h t (Stay Any) table plan s = stays_any w h t table plan.0 plan.1.0 plan.1.1 s

@@ -2,11 +2,7 @@
 use Rattle.std.specs.Prelude.{ℕ, Bool, cond, List, [], ◌∷◌, Option, Some, None}
 use Rattle.least_table.specs.BestHops.{Hops, first, wants}
 
--- what the halves of a block inherit that has these best hops, no route, and inherits s
-abbrev pub passed_on : Hops → Option ℕ → Option ℕ
-passed_on hops s = cond (wants hops s) s (first hops)
-
--- the edit of such a block b, if it needs one
+-- the edit of a block b without a route that has these best hops and inherits s, if it needs one
 abbrev pub settled : List Bool → Hops → Option ℕ → List (List Bool × Option (Option ℕ))
 settled b hops s = cond (wants hops s) [] ((b, Some (first hops)) ∷ [])
 
