@@ -5,16 +5,15 @@ ghost use Rattle.ipnet_addr.specs.Addresses.{Address, IsAddress};
 ghost use Rattle.ipnet.specs.IpNets.{block};
 ghost use Rattle.ipnet_blocks.specs.Blocks.{is_inside};
 ghost use Rattle.route_choices.specs.Choices.{choices_with};
-ghost use Rattle.route_laws.specs.Batches.{painted_all};
 ghost use Rattle.route_laws.specs.LeastTables.{routes_for};
 ghost use Rattle.route_laws.specs.Nearest.{IsFewestTo};
 ghost use Rattle.route_laws.specs.Networks.{best_route, choices_at, routes_of};
 ghost use Rattle.route_laws.specs.Operations.{IsHitless, Operation, after_all};
+ghost use Rattle.route_laws.specs.Painted.{painted_all};
 ghost use Rattle.route_laws.specs.Tables.{hop_at, longer, match_of, item_of};
 
 use ipnet::IpNet;
-use route_laws::laws::nearest;
-use route_table::laws::{best_routes, fewest, flat, held};
+use route_table::laws::{best_routes, fewest, flat, held, nearest};
 use route_table::{AddRefused, DEFAULT_PREFERENCE, Hop, HopTable, Refused, RouteTable};
 
 /// Returns the result of `get` after an accepted `add`. If the new network contains the asked network, it is the longer of two routes:

@@ -95,7 +95,7 @@ fn updates(rt: &HostRuntime, table: &HopTable) -> Result<(), Fault> {
     Ok(())
 }
 
-/// Calls that store nothing new, then the operations to a least table, and those of a change of a network with another inside.
+/// Calls that store nothing new, and then the operations to a least table.
 fn free(rt: &HostRuntime, table: &mut HopTable) -> Result<(), Fault> {
     let (stored, handed) = (network("10.1.2.4/30")?, network("10.1.2.0/24")?);
     let Ok(list) = table.least() else {
@@ -104,7 +104,6 @@ fn free(rt: &HostRuntime, table: &mut HopTable) -> Result<(), Fault> {
     begin(rt);
     change_nothing(rt, table, stored, handed);
     lines(rt, "", table.between(list.as_slice()));
-    lines(rt, "", table.repaint(handed, Hop::Number(9)));
     end(rt);
     Ok(())
 }

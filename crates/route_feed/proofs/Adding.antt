@@ -1,6 +1,5 @@
 -- The lines that add routes, written one after another.
-use Rattle.std.proofs.Common.{◌≡◌, ℕ, ◌+◌, ◌<◌, List, ◌∷◌, ◌++◌, length, drop, slice_index_or, sym, ap, ◌∙◌, subst, append-nil, codes}
-use Rattle.std.proofs.lemmas.List.{at_drop_more}
+use Rattle.std.proofs.Common.{◌≡◌, ℕ, List, ◌∷◌, ◌++◌, sym, ap, ◌∙◌, append-nil, codes}
 use Rattle.route_table.proofs.Looks.{network_is}
 use Rattle.ipnet.specs.IpNets.{block, family, network_at, parts}
 use Rattle.ipnet.specs.IpNetText.{net_text}
@@ -12,7 +11,7 @@ use Rattle.route_choices.specs.Choices.{default_preference}
 use Rattle.route_choices.specs.declared.hop.Hop.{Hop}
 use Rattle.route_laws.specs.LeastTables.{routes_for}
 use Rattle.route_feed.specs.AddLines.{add_lines}
-use Rattle.route_feed.specs.InnerLines.{AreTruncated, command_line}
+use Rattle.route_feed.specs.InnerLines.{command_line}
 
 -- the line of a command that adds a hop with the default preference
 pub line_is : (net : IpNet) (hop : Hop) → codes "add " ++ net_text net ++ codes " " ++ hop_text hop ++ codes "\n" ≡ command_line (Add net hop default_preference)

@@ -1,9 +1,9 @@
--- Operations of changes, written one change after another.
+-- The bytes of a batch, and changes that are made one after another.
 use Rattle.std.proofs.Common.{◌≡◌, ℕ, ◌+◌, ◌<◌, List, [], ◌∷◌, ◌++◌, length, map, take, slice_index_or, Option, Result, refl, sym, ap, ◌∙◌, subst, append-nil}
 use Rattle.std.proofs.lemmas.Grind.{flat_map-append}
 use Rattle.std.proofs.lemmas.List.{map-append}
-use Rattle.route_laws.specs.Batches.{batch, painted, painted_all}
 use Rattle.route_laws.specs.Operations.{Operation}
+use Rattle.route_laws.specs.Painted.{painted, painted_all}
 use Rattle.route_laws.specs.Tables.{Route, route_of}
 use Rattle.route_lines.specs.declared.reply.Closing.TheVariants.{Done}
 use Rattle.route_lines.specs.declared.reply.Reply.TheVariants.{Close}

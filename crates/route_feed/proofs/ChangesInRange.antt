@@ -6,7 +6,7 @@ use Rattle.ipnet_addr.proofs.Ascending.{All-from_In}
 use Rattle.ipnet_blocks.specs.Blocks.{IsBlock}
 use Rattle.ipnet.specs.IpNets.{block}
 use Rattle.route_choices.specs.Hops.{IsHop, hop_from}
-use Rattle.route_laws.specs.Batches.{AreChanges}
+use Rattle.route_laws.specs.Painted.{AreChanges}
 use Rattle.route_laws.specs.Tables.{Route}
 use Rattle.route_lines.specs.InnerPhrase.{Gives}
 use Rattle.route_lines.specs.Spelled.{note_of}

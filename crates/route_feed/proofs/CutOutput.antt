@@ -3,7 +3,7 @@ use Rattle.std.proofs.Common.{◌≡◌, ◌⊎◌, ℕ, suc, ◌+◌, Bool, tru
 use Rattle.std.specs.Prelude.{is_some}
 use Rattle.std.specs.List.{cons_option, filter_map}
 use Rattle.std.proofs.lemmas.List.Elements.{filter_map-append, filter-append}
-use Rattle.route_laws.proofs.Batches.{after-append}
+use Rattle.route_laws.proofs.Between.{after-append}
 use Rattle.ipnet_addr.specs.Addresses.{Address, IsAddress}
 use Rattle.ipnet_addr.proofs.Members.{In, In-cases}
 use Rattle.ipnet_addr.proofs.Ascending.{In-from_Contains}
@@ -13,7 +13,7 @@ use Rattle.route_lines.specs.declared.reply.Reply.{Reply}
 use Rattle.route_lines.specs.declared.update.Update.{Update}
 use Rattle.route_lines.specs.declared.update.Update.TheVariants as U
 use Rattle.route_laws.specs.Networks.{routes_of}
-use Rattle.route_laws.specs.Operations.{Operation, after, after_all}
+use Rattle.route_laws.specs.Operations.{Operation, after_all}
 use Rattle.route_laws.specs.Runs.{Event, Installer, MayAllCome, after_events, given, haves, start}
 use Rattle.route_laws.specs.Tables.{hop_at}
 use Rattle.route_feed.specs.Installing.{Installing, Noted, after_notes, begin, event_of, events, operation_line, update_lines}

@@ -14,16 +14,16 @@ use Rattle.route_lines.specs.declared.note.Note.TheVariants as N
 use Rattle.route_lines.specs.declared.reply.Closing.TheVariants.{Done}
 use Rattle.route_lines.specs.declared.reply.Reply.TheVariants.{Set, Unset, Close}
 use Rattle.route_lines.specs.declared.update.Update.TheVariants as U
-use Rattle.route_laws.specs.Batches.{AreChanges, painted_all}
 use Rattle.route_laws.specs.LeastTables.{HasHops, IsLeast}
 use Rattle.route_laws.specs.Networks.{routes_of}
 use Rattle.route_laws.specs.Nearest.{IsNearest}
 use Rattle.route_laws.specs.Operations.{Operation, after_all, between}
+use Rattle.route_laws.specs.Painted.{AreChanges, painted_all}
 use Rattle.route_laws.specs.Runs.{MayAllCome, start}
 use Rattle.route_laws.specs.Tables.{Route, IsTable, hop_at}
-use Rattle.route_laws.proofs.Batches.{between_reaches, changes_from}
+use Rattle.route_laws.proofs.Between.{between_reaches}
 use Rattle.route_laws.proofs.Insides.{Sound, table_of}
-use Rattle.route_laws.proofs.Nearest.{painted_all_is_table}
+use Rattle.route_laws.proofs.Painted.{changes_from, painted_all_is_table}
 use Rattle.route_feed.specs.Installing.{Noted, begin, events, update_lines}
 use Rattle.route_feed.specs.InstallLaws.{installed_by, operations_at, replies_of}
 use Rattle.route_feed.specs.Output.{table_after}

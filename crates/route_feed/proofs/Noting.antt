@@ -9,15 +9,15 @@ use Rattle.route_choices.specs.Choices.{default_preference}
 use Rattle.route_choices.specs.declared.hop.Hop.{Hop}
 use Rattle.route_choices.specs.declared.hop.Hop.TheVariants.{Number, Drop}
 use Rattle.route_choices.specs.Hops.{hop_from, number_of}
-use Rattle.route_laws.specs.Batches.{painted_all}
 use Rattle.route_laws.specs.LeastTables.{IsLeast, routes_for}
 use Rattle.route_laws.specs.Nearest.{AreUpdates, IsNearest}
 use Rattle.route_laws.specs.Networks.{Stored, routes_of}
 use Rattle.route_laws.specs.Onwards.{count_of}
 use Rattle.route_laws.specs.Operations.{Operation, after_all, between}
+use Rattle.route_laws.specs.Painted.{painted_all}
 use Rattle.route_laws.specs.Runs.{Event, Have, Told, Sync, Installer, after_event, after_events}
 use Rattle.route_laws.specs.Tables.{Route, IsTable, hop_at, route_of}
-use Rattle.route_laws.proofs.Batches.{between_reaches}
+use Rattle.route_laws.proofs.Between.{between_reaches}
 use Rattle.route_laws.proofs.Runs.{none_between}
 use Rattle.route_lines.specs.declared.cutter.Line.{Line}
 use Rattle.route_feed.specs.Counted.{CanCount}

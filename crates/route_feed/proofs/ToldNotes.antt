@@ -9,7 +9,7 @@ use Rattle.route_lines.specs.declared.note.Note.{Note}
 use Rattle.route_lines.specs.declared.note.Note.TheVariants as N
 use Rattle.route_lines.specs.declared.reply.Reply.{Reply}
 use Rattle.route_lines.specs.declared.reply.Reply.TheVariants as R
-use Rattle.route_laws.specs.Batches.{hop_over}
+use Rattle.route_laws.specs.Painted.{hop_over}
 use Rattle.route_laws.specs.Runs.{Event, told}
 use Rattle.route_laws.specs.Tables.{Route}
 use Rattle.route_feed.specs.Streams.{Change, change_of, closes, committed, ends_well, is_done, painted_over}

@@ -3,11 +3,11 @@ use Rattle.std.specs.Prelude.{◌≡◌, ℕ, true, false, not, List, [], ◌∷
 use Rattle.route_lines.specs.declared.cutter.Line.{Line}
 use Rattle.route_lines.specs.declared.note.Note.{Note}
 use Rattle.route_lines.specs.declared.update.Update.TheVariants as U
-use Rattle.route_laws.specs.Batches.{painted_all}
 use Rattle.route_laws.specs.LeastTables.{IsLeast}
 use Rattle.route_laws.specs.Nearest.{IsNearest}
 use Rattle.route_laws.specs.Networks.{Stored, routes_of}
 use Rattle.route_laws.specs.Operations.{Operation, between}
+use Rattle.route_laws.specs.Painted.{painted_all}
 use Rattle.route_laws.specs.Runs.{Event, Have, Told, Sync, Installer, after_event}
 use Rattle.route_laws.specs.Tables.{Route, IsTable, hop_at}
 use Rattle.route_feed.specs.declared.counted.Counted.{Counted}

@@ -15,13 +15,13 @@ use Rattle.ipnet_blocks.proofs.BlockTests.{same_from_test, test_from_same}
 use Rattle.route_choices.specs.Choices.{same_hop}
 use Rattle.route_choices.proofs.Kept.{Rising-kept, In-from_filter, In-filter, Rising-joined}
 use Rattle.route_choices.proofs.Preferences.{hop_from_test, same_itself}
-use Rattle.route_laws.specs.Tables.{Route, IsTable, is_stored, with_route, without_block}
+use Rattle.route_laws.specs.Tables.{Route, IsTable, hop_at, is_stored, with_route, without_block}
 use Rattle.route_laws.proofs.Insides.{Sooner, rising, same_in}
 use Rattle.route_laws.proofs.Matches.{block_in}
 use Rattle.route_laws.proofs.Ordered.{same_or_not}
 use Rattle.route_laws.proofs.Updates.{added_back, added_itself, added_other, left_back, left_is_table, left_other}
-use Rattle.route_laws.specs.Operations.{between, installs, removes, missing, surplus, same_route}
-use Rattle.route_laws.proofs.Turning.{Leads, install_turns, remove_turns, with_one}
+use Rattle.route_laws.specs.Operations.{IsHitless, Operation, after, after_all, between, installs, removes, missing, surplus, same_route}
+use Rattle.route_laws.proofs.Turning.{Leads, hitless_from, install_turns, leads_once, reaches, remove_turns, with_one}
 
 -- ---- lists turned round
 
@@ -137,3 +137,13 @@ module _ (N : List Route) (new : IsTable N) where
         (λ s i. inl i)
         (falls (missing M N) (Rising-kept Sooner (λ u. not (list_any (λ s. same_route s u) M)) N (rising N new)))
         (λ s i. (missing_back M N s (reverse_In (missing M N) s i)).0)
+
+pub between_reaches : (M N : List Route) → IsTable M → IsTable N → after_all M (between M N) ≡ N
+between_reaches M N old new = reaches N M (between M N) (leads N new M old)
+
+pub between_hitless : (M N : List Route) → IsTable M → IsTable N → IsHitless M (between M N)
+between_hitless M N old new = hitless_from M (between M N) (λ x a. (hop_at N x, leads_once x a N M (between M N) (leads N new M old)))
+
+pub after-append : (M : List Route) (os ps : List Operation) → after_all M (os ++ ps) ≡ after_all (after_all M os) ps
+after-append M [] ps = refl
+after-append M (o ∷ os) ps = after-append (after M o) os ps

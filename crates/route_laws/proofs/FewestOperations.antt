@@ -1,5 +1,6 @@
--- How many operations there are between two tables: none are fewer, and a change takes few.
-use Rattle.std.proofs.Common.{◌≡◌, ◌≤◌, ◌⊎◌, inl, inr, ⊎_elim, List, [], ◌∷◌, length, refl, sym, ap, ◌∙◌, subst, suc, ◌+◌, not, ◌&&◌, arith}
+-- How many operations there are between two tables: none are fewer, and changes take few.
+use Rattle.std.proofs.Common.{◌≡◌, ◌≤◌, ◌⊎◌, inl, inr, ⊎_elim, List, [], ◌∷◌, ◌++◌, length, refl, sym, ap, ◌∙◌, subst, suc, ◌+◌, not, ◌&&◌, arith}
+use Rattle.std.proofs.lemmas.List.{length-append}
 use mathlib.Core.List.{reverse}
 use Rattle.ipnet_addr.proofs.Members.{In, In-cases, Distinct, no_more}
 use Rattle.ipnet_addr.proofs.Ascending.{Rising, Distinct-from_Rising}
@@ -10,7 +11,7 @@ use Rattle.route_laws.specs.Tables.{Route, IsTable, match_of, match_number}
 use Rattle.route_laws.proofs.Ordered.{Rising-map, put_back, put_itself, put_other, same_or_not, gone_back, gone_other, not_from}
 use Rattle.route_laws.proofs.Insides.{Sooner, rising, same_in}
 use Rattle.route_laws.specs.Operations.{Operation, Install, Remove, after, after_all, between, installs, removes, missing, surplus}
-use Rattle.route_laws.proofs.Between.{Later, falls, missing_back, reverse_In, surplus_back}
+use Rattle.route_laws.proofs.Between.{Later, after-append, between_reaches, falls, missing_back, reverse_In, surplus_back}
 use Rattle.std.proofs.lemmas.Bool.{and_from, cond_both}
 use Rattle.ipnet_blocks.proofs.BlockTests.{same_from_test}
 use Rattle.ipnet_blocks.proofs.Parents.{decide_inside}
@@ -19,8 +20,8 @@ use Rattle.route_laws.specs.Changes.{same_number}
 use Rattle.route_laws.specs.Overwritten.{overwritten, without_inside}
 use Rattle.route_laws.proofs.Matches.{block_in, test_from_inside}
 use Rattle.route_laws.proofs.Overwritten.{outside_back, outside_other, over_back, over_other, routes_placed}
-use Rattle.route_laws.specs.Batches.{painted, strictly_inside}
-use Rattle.route_laws.proofs.Painted.{painted_is_table}
+use Rattle.route_laws.specs.Painted.{most_operations, painted, painted_all, strictly_inside}
+use Rattle.route_laws.proofs.Painted.{Changes, painted_all_is_table, painted_is_table}
 
 -- a route that was not there is installed
 pub is_installed : (M : List Route) (L : List Operation) (r : Route) → In r (after_all M L) → In r M ⊎ In (Install r) L
@@ -89,7 +90,7 @@ module _ (M N : List Route) (old : IsTable M) (new : IsTable N) where
           (λ t. subst (λ (p : Operation). In p L) (sym t.2) (is_removed M L t.0 t.1.0 (λ s k f. t.1.1 s (subst (λ (K : List Route). In s K) e k) f)))
           (is_one M N o i)
 
--- ---- the operations of a change
+-- ---- the operations of changes
 
 -- the block of an operation
 abbrev pub touched : Operation → Block
@@ -123,7 +124,7 @@ module _ (M : List Route) (r : Route) (m : IsTable M) (ok : IsBlock r.block) whe
   strictly s i h f = In-filter (λ s. is_inside s.block r.block && not (same_block s.block r.block)) M s i
       (and_from (is_inside s.block r.block) (not (same_block s.block r.block)) (test_from_inside s.block r.block (block_in M m s i) ok h) (not_from (same_block s.block r.block) (λ e. f (same_from_test s.block r.block e))))
 
-  pub counted : IsHop r.hop → length (between M (painted M r)) ≤ 1 + length (strictly_inside M r.block)
+  counted : IsHop r.hop → length (between M (painted M r)) ≤ 1 + length (strictly_inside M r.block)
   counted hop =
       let new = painted_is_table M m r ok hop in
       let l : length (between M (painted M r)) ≤ suc (length (strictly_inside M r.block)) =
@@ -141,3 +142,22 @@ module _ (M : List Route) (r : Route) (m : IsTable M) (ok : IsBlock r.block) whe
           (λ h. absurd (t.1.1 t.0 (painted_other t.0 t.1.0 h) refl))
           (decide_inside (Route.block t.0) r.block (block_in M m t.0 t.1.0) ok))
           (same_or_not (Route.block t.0) r.block)
+
+-- from M by the changed table, and not straight on, it takes no fewer
+pub counted_all : (M rs : List Route) → IsTable M → Changes rs → length (between M (painted_all M rs)) ≤ most_operations M rs
+counted_all M [] m c = fewest M M m m [] refl
+counted_all M (r ∷ rs) m c =
+    let k = c r (inl refl) in
+    let p = painted_is_table M m r k.0 k.1 in
+    let rest : Changes rs = λ s i. c s (inr i) in
+    let all = painted_all_is_table (painted M r) rs p rest in
+    let first = between M (painted M r) in
+    let then = between (painted M r) (painted_all (painted M r) rs) in
+    omega (
+      arith,
+      fewest M (painted_all (painted M r) rs) m all (first ++ then)
+          (after-append M first then ∙ ap (λ T. after_all T then) (between_reaches M (painted M r) m p) ∙ between_reaches (painted M r) (painted_all (painted M r) rs) p all),
+      length-append first then,
+      counted M r m k.0 k.1,
+      counted_all (painted M r) rs p rest,
+    )

@@ -24,11 +24,9 @@ pub mod Rows
 pub mod Families
 pub mod Turning
 pub mod Between
-pub mod FewestOperations
 pub mod Painted
-pub mod Repaints
 pub mod Handed
-pub mod Batches
+pub mod FewestOperations
 pub mod Nearest
 pub mod Runs
 pub mod OperationRows

@@ -1,15 +1,15 @@
 -- Nearest tables and the fewest operations.
-use Rattle.std.proofs.Common.{◌≡◌, inl, inr, List, [], ◌∷◌, length, refl, sym, ap, ◌∙◌, subst, arith, append-nil}
+use Rattle.std.proofs.Common.{◌≡◌, List, [], ◌∷◌, length, refl, sym, ap, ◌∙◌, subst, arith, append-nil}
 use mathlib.Core.List.{reverse}
 use Rattle.std.proofs.lemmas.List.{length-map, length-reverse}
-use Rattle.route_laws.specs.Batches.{batch, painted, painted_all}
 use Rattle.route_laws.specs.LeastTables.{HasHops, IsLeast}
-use Rattle.route_laws.specs.Nearest.{IsNearest, FewestIsNearest, LeastIsNearest, NearestIsFewest, NearestIsHitless, NearestIsNoMore}
+use Rattle.route_laws.specs.Nearest.{IsNearest, FewestIsNearest, LeastIsNearest, NearestIsBounded, NearestIsFewest, NearestIsHitless}
 use Rattle.route_laws.specs.Operations.{Install, after_all, between, installs, missing}
-use Rattle.route_laws.specs.Tables.{Route, IsTable, hop_at}
-use Rattle.route_laws.proofs.Batches.{Changes, batch_reaches, between_hitless, between_reaches, changes_from}
-use Rattle.route_laws.proofs.FewestOperations.{fewest}
-use Rattle.route_laws.proofs.Painted.{painted_is_table}
+use Rattle.route_laws.specs.Painted.{painted_all}
+use Rattle.route_laws.specs.Tables.{Route}
+use Rattle.route_laws.proofs.Between.{between_hitless, between_reaches}
+use Rattle.route_laws.proofs.FewestOperations.{counted_all, fewest}
+use Rattle.route_laws.proofs.Painted.{changes_from, painted_all_is_table}
 
 pub nearest_is_fewest : NearestIsFewest
 nearest_is_fewest M h N m n = record {
@@ -26,17 +26,10 @@ fewest_is_nearest M h os m f = record {
   nearest = λ L g. omega (arith, fewest M (after_all M os) m f.hops.table os refl, f.fewest (between M L) (subst (HasHops h) (sym (between_reaches M L m g.table)) g));
 }
 
-pub painted_all_is_table : (M rs : List Route) → IsTable M → Changes rs → IsTable (painted_all M rs)
-painted_all_is_table M [] m c = m
-painted_all_is_table M (r ∷ rs) m c =
-    let k = c r (inl refl) in
-    painted_all_is_table (painted M r) rs (painted_is_table M m r k.0 k.1) (λ s i. c s (inr i))
-
-pub nearest_is_no_more : NearestIsNoMore
-nearest_is_no_more M rs N m c n =
-    let e = batch_reaches M rs m (changes_from rs c) in
-    let f = nearest_is_fewest M (hop_at (painted_all M rs)) N m n in
-    f.fewest (batch M rs) (subst (HasHops (hop_at (painted_all M rs))) (sym e) (record { table = painted_all_is_table M rs m (changes_from rs c); same = λ x a. refl }))
+pub nearest_is_bounded : NearestIsBounded
+nearest_is_bounded M rs N m c n =
+    let k = changes_from rs c in
+    omega (arith, n.nearest (painted_all M rs) (record { table = painted_all_is_table M rs m k; same = λ x a. refl }), counted_all M rs m k)
 
 -- ---- the empty table
 

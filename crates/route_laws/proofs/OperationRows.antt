@@ -6,7 +6,7 @@ use Rattle.route_choices.specs.declared.hop.Hop.{Hop}
 use Rattle.route_choices.specs.declared.hop.Hop.TheVariants.{Number, Drop}
 use Rattle.route_laws.specs.Tables.{Route, hop_at}
 use Rattle.route_laws.specs.Operations.{Install, Remove, after_all, between}
-use Rattle.route_laws.specs.Batches.{batch}
+use Rattle.route_laws.specs.Painted.{most_operations, painted, painted_all}
 use Rattle.route_laws.specs.Runs.{Event, Have, Sync, Told, given, haves, start}
 
 abbrev net : ℕ → ℕ → Block
@@ -37,25 +37,28 @@ reached_row = refl
 way_row : map (λ i. hop_at (after_all old (take i (between old new))) (at 176160768)) (0 ∷ 1 ∷ 2 ∷ 3 ∷ []) ≡ Some 1 ∷ Some 1 ∷ Some 1 ∷ Some 1 ∷ []
 way_row = refl
 
--- `set 10.0.0.0/9 1`: what is handed down is 1, so no route is left there
-handed_row : batch old (route 9 20 (Number 1) ∷ []) ≡ Remove (net 9 20) ∷ Remove (net 16 2560) ∷ []
-handed_row = refl
-
--- `unset 10.0.0.0/9`
-unset_row : batch old (route 9 20 Drop ∷ []) ≡ Install (route 9 20 Drop) ∷ Remove (net 16 2560) ∷ []
-unset_row = refl
-
--- `set 10.0.0.0/9 2` of a table that has it, and a longer route of another hop inside
-again_row : batch old (route 9 20 (Number 2) ∷ []) ≡ Remove (net 16 2560) ∷ []
-again_row = refl
-
--- two changes
-two_row : batch old (route 9 20 (Number 3) ∷ route 9 21 (Number 3) ∷ []) ≡ Install (route 9 20 (Number 3)) ∷ Remove (net 16 2560) ∷ Install (route 9 21 (Number 3)) ∷ []
-two_row = refl
-
 -- the same operations, outer before inner: the address turns twice
 naive_row : map (λ i. hop_at (after_all old (take i (Install (route 8 10 (Number 2)) ∷ Install (route 9 21 (Number 1)) ∷ Remove (net 9 20) ∷ []))) (at 176160768)) (0 ∷ 1 ∷ 2 ∷ 3 ∷ []) ≡ Some 1 ∷ Some 2 ∷ Some 1 ∷ Some 1 ∷ []
 naive_row = refl
+
+-- all of 10.0.0.0/9 to 1: it inherits 1, so no route is left there
+handed_row : painted old (route 9 20 (Number 1)) ≡ route 8 10 (Number 1) ∷ []
+handed_row = refl
+
+-- no hop for 10.0.0.0/9
+unset_row : painted old (route 9 20 Drop) ≡ route 8 10 (Number 1) ∷ route 9 20 Drop ∷ []
+unset_row = refl
+
+-- all of 10.0.0.0/9 to 2, which its route has, and a longer route inside has not
+again_row : painted old (route 9 20 (Number 2)) ≡ route 8 10 (Number 1) ∷ route 9 20 (Number 2) ∷ []
+again_row = refl
+
+-- two changes: one operation each at most, and one for 10.0.0.0/16
+two_row : painted_all old (route 9 20 (Number 3) ∷ route 9 21 (Number 3) ∷ []) ≡ route 8 10 (Number 1) ∷ route 9 20 (Number 3) ∷ route 9 21 (Number 3) ∷ []
+two_row = refl
+
+most_row : most_operations old (route 9 20 (Number 3) ∷ route 9 21 (Number 3) ∷ []) ≡ 3
+most_row = refl
 
 -- 10.0.0.0/8 1 is installed already, and a change is reported; then a least table, and two changes of one reply that take one operation
 abbrev run : List Event

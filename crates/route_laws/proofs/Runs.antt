@@ -8,12 +8,13 @@ use Rattle.route_laws.specs.Tables.{Route, IsTable, hop_at}
 use Rattle.route_laws.proofs.Families.{least_too}
 use Rattle.route_laws.proofs.Insides.{table_of}
 use Rattle.route_laws.proofs.Updates.{added_is_table}
-use Rattle.route_laws.specs.Batches.{hop_over, painted_all}
 use Rattle.route_laws.specs.Operations.{IsHitless, Operation, after_all, between}
+use Rattle.route_laws.specs.Painted.{hop_over, painted_all}
 use Rattle.route_laws.specs.Runs.{Event, Have, Told, Sync, Installer, IsMade, MayCome, MayAllCome, after_event, after_events, given, gives, haves, start, told, with_haves}
-use Rattle.route_laws.proofs.Batches.{Changes, after-append, batch_hops, between_hitless, between_reaches, changes_from}
+use Rattle.route_laws.proofs.Between.{after-append, between_hitless, between_reaches}
 use Rattle.route_laws.proofs.FewestOperations.{fewest}
-use Rattle.route_laws.proofs.Nearest.{nearest_is_fewest, painted_all_is_table}
+use Rattle.route_laws.proofs.Nearest.{nearest_is_fewest}
+use Rattle.route_laws.proofs.Painted.{Changes, changes_from, painted_all_hops, painted_all_is_table}
 use Rattle.route_laws.proofs.Turning.{hitless_from}
 
 nothing_turns : (M : List Route) → IsHitless M []
@@ -49,7 +50,7 @@ holds_told h s rs N g m = record {
     t = painted_all_is_table s.table rs g.table k
 
     hops : (x : Address) → IsAddress x → hop_at (painted_all s.table rs) x ≡ hop_over (h x) rs x
-    hops x a = batch_hops s.table rs g.table k x a ∙ ap (λ o. hop_over o rs x) (g.hops x a)
+    hops x a = painted_all_hops s.table rs g.table k x a ∙ ap (λ o. hop_over o rs x) (g.hops x a)
 
     both : (b : Bool) (N T I : List Route) → b ≡ true → cond b N I ≡ cond b N T
     both true N T I e = refl

@@ -1,5 +1,5 @@
 -- Operations towards a table, on whose way the match of each address turns once.
-use Rattle.std.proofs.Common.{◌≡◌, ℕ, zero, suc, ◌≤◌, ◌⊎◌, inl, inr, ⊎_elim, List, [], ◌∷◌, ◌++◌, take, Option, Some, refl, sym, ap, ◌∙◌, arith}
+use Rattle.std.proofs.Common.{◌≡◌, ℕ, zero, suc, ◌≤◌, ◌⊎◌, inl, inr, ⊎_elim, List, [], ◌∷◌, take, Option, Some, refl, sym, ap, ◌∙◌, arith}
 use Rattle.std.proofs.lemmas.Bool.{cases_lt}
 use Rattle.ipnet_addr.specs.Addresses.{Address, IsAddress}
 use Rattle.ipnet_addr.proofs.Members.{In}
@@ -103,15 +103,6 @@ module _ (x : Address) where
       (λ e. ⊎_elim (λ f. inl (f ∙ e)) (λ f. inr f) (once_turns (after M o) os h t.1 i j (omega arith)))
       (λ e. inr (settled_at (after M o) os h e t.1 j))
       t.0
-
-  -- one list of operations after the other: the address turns in one of them
-  pub once_joined : (M : List Route) (os ps : List Operation) (h : Option ℕ) → Once M os h → Once (after_all M os) ps h → Once M (os ++ ps) h
-  once_joined M [] ps h t u = u
-  once_joined M (o ∷ os) ps h t u = (t.0, once_joined (after M o) os ps h t.1 u)
-
-  pub settled_then_once : (M : List Route) (os ps : List Operation) (g h : Option ℕ) → hop_at M x ≡ g → Once M os g → Once (after_all M os) ps h → Once M (os ++ ps) h
-  settled_then_once M [] ps g h e t u = u
-  settled_then_once M (o ∷ os) ps g h e t u = let f = still M o os g e t in (inl (f ∙ sym e), settled_then_once (after M o) os ps g h f t.1 u)
 
   pub leads_once : IsAddress x → (N T : List Route) (os : List Operation) → Leads N T os → Once T os (hop_at N x)
   leads_once a N T [] l = ap (λ M. hop_at M x) l

@@ -8,8 +8,8 @@ pub mod Bounds
 pub mod Onwards
 pub mod Overwritten
 pub mod Pages
+pub mod Painted
 pub mod Operations
-pub mod Batches
 pub mod Nearest
 pub mod Runs
 pub mod Laws

@@ -1,9 +1,9 @@
 -- The fewest operations that give each address a hop, and the tables that they lead to.
 use Rattle.std.specs.Prelude.{◌≡◌, ℕ, ◌≤◌, ◌↔◌, List, [], Option, length}
 use Rattle.ipnet_addr.specs.Addresses.{Address}
-use Rattle.route_laws.specs.Batches.{AreChanges, batch, painted_all}
 use Rattle.route_laws.specs.LeastTables.{HasHops, IsLeast}
 use Rattle.route_laws.specs.Operations.{IsHitless, Operation, after_all, between}
+use Rattle.route_laws.specs.Painted.{AreChanges, most_operations, painted_all}
 use Rattle.route_laws.specs.Tables.{Route, IsTable, hop_at}
 
 -- after these operations on M each address has the hop that h gives, and no shorter sequence of operations, on any blocks, does this
@@ -34,9 +34,10 @@ NearestIsHitless = (M : List Route) (h : Address → Option ℕ) (N : List Route
 abbrev pub FewestIsNearest : Type 0
 FewestIsNearest = (M : List Route) (h : Address → Option ℕ) (os : List Operation) → IsTable M → IsFewestTo M h os → IsNearest M h (after_all M os)
 
--- a nearest table with the hops after changes needs no more operations than the changes one after another
-abbrev pub NearestIsNoMore : Type 0
-NearestIsNoMore = (M rs N : List Route) → IsTable M → AreChanges rs → IsNearest M (hop_at (painted_all M rs)) N → length (between M N) ≤ length (batch M rs)
+-- The way to a nearest table with the hops after changes has at most one operation for each change, and one for each route strictly
+-- inside its block.
+abbrev pub NearestIsBounded : Type 0
+NearestIsBounded = (M rs N : List Route) → IsTable M → AreChanges rs → IsNearest M (hop_at (painted_all M rs)) N → length (between M N) ≤ most_operations M rs
 
 -- a table is least exactly if it is nearest to the empty table
 abbrev pub LeastIsNearest : Type 0

@@ -1,17 +1,16 @@
 -- The theorems about operations between tables, as statements.
-use Rattle.std.specs.Prelude.{◌≡◌, ◌<◌, ◌≤◌, ◌+◌, true, if◌then◌else◌, ℕ, List, ◌++◌, ◌∷◌, [], None, length, take}
+use Rattle.std.specs.Prelude.{◌≡◌, true, if◌then◌else◌, ℕ, List, ◌++◌, ◌∷◌, [], None, take}
 use Rattle.ipnet_addr.specs.Addresses.{Address, IsAddress}
-use Rattle.ipnet_blocks.specs.Blocks.{Block, IsBlock, has_address, parent}
+use Rattle.ipnet_blocks.specs.Blocks.{Block, IsBlock, has_address}
 use Rattle.ipnet_blocks.specs.Maximal.{IsMaximal}
 use Rattle.route_choices.specs.declared.hop.Hop.{Hop}
 use Rattle.route_choices.specs.Hops.{IsHop, number_of}
-use Rattle.route_laws.specs.Batches.{AreApart, AreChanges, batch, changes_to, hop_over, painted, painted_all, strictly_inside}
 use Rattle.route_laws.specs.LeastTables.{IsLeast}
 use Rattle.route_laws.specs.Nearest.{IsFewestTo}
 use Rattle.route_laws.specs.Operations.{IsFewestOperations, IsHitless, after_all, between}
-use Rattle.route_laws.specs.Overwritten.{without_inside}
+use Rattle.route_laws.specs.Painted.{AreChanges, changes_to, hop_over, painted, painted_all}
 use Rattle.route_laws.specs.Runs.{Event, Sync, Told, IsMade, MayAllCome, after_events, given, gives, haves, start, told}
-use Rattle.route_laws.specs.Tables.{Route, Changed, IsTable, hop_at, match_of}
+use Rattle.route_laws.specs.Tables.{Route, Changed, IsTable, hop_at}
 
 -- the operations between two tables turn the first into the second
 abbrev pub BetweenReaches : Type 0
@@ -36,33 +35,13 @@ abbrev pub HopsOfPainted : Type 0
 HopsOfPainted = (M : List Route) (r : Route) → IsTable M → IsBlock r.block → IsHop r.hop → (x : Address) → IsAddress x →
     hop_at (painted M r) x ≡ (if has_address r.block x then number_of r.hop else hop_at M x)
 
--- the operations of changes make the table after these changes
-abbrev pub BatchReaches : Type 0
-BatchReaches = (M rs : List Route) → IsTable M → AreChanges rs → after_all M (batch M rs) ≡ painted_all M rs
-
--- if no two changes have a common address, each address changes its hop at most once
-abbrev pub BatchIsHitless : Type 0
-BatchIsHitless = (M rs : List Route) → IsTable M → AreChanges rs → AreApart rs → IsHitless M (batch M rs)
-
--- a change needs at most one operation, and one for each route strictly inside its block
-abbrev pub FewOperations : Type 0
-FewOperations = (M : List Route) (r : Route) → IsTable M → IsBlock r.block → IsHop r.hop → length (between M (painted M r)) ≤ 1 + length (strictly_inside M r.block)
-
 -- each address has the hop of the last change whose block contains it, or its old hop if none does
-abbrev pub HopsOfBatch : Type 0
-HopsOfBatch = (M rs : List Route) → IsTable M → AreChanges rs → (x : Address) → IsAddress x → hop_at (painted_all M rs) x ≡ hop_over (hop_at M x) rs x
+abbrev pub HopsOfChanges : Type 0
+HopsOfChanges = (M rs : List Route) → IsTable M → AreChanges rs → (x : Address) → IsAddress x → hop_at (painted_all M rs) x ≡ hop_over (hop_at M x) rs x
 
--- the maximal blocks of the addresses whose hop differs in two tables, with one hop, are valid changes without common addresses
+-- the maximal blocks of the addresses whose hop differs in two tables are valid changes, with any hop
 abbrev pub ToldAreChanges : Type 0
-ToldAreChanges = (M N : List Route) (bs : List Block) (hop : Hop) → IsMaximal (Changed M N) bs → IsHop hop → AreChanges (changes_to hop bs) × AreApart (changes_to hop bs)
-
--- a block inherits the match of its parent from the routes outside
-abbrev pub HandedByParent : Type 0
-HandedByParent = (M : List Route) (b : Block) → IsTable M → IsBlock b → 0 < b.len → match_of (without_inside M b) b ≡ match_of M (parent b)
-
--- the block of a whole family inherits nothing
-abbrev pub HandedByNone : Type 0
-HandedByNone = (M : List Route) (b : Block) → IsTable M → IsBlock b → b.len ≡ 0 → match_of (without_inside M b) b ≡ None
+ToldAreChanges = (M N : List Route) (bs : List Block) (hop : Hop) → IsMaximal (Changed M N) bs → IsHop hop → AreChanges (changes_to hop bs)
 
 -- ---- event by event
 

@@ -3,10 +3,10 @@ use Rattle.std.specs.Prelude.{◌≡◌, ℕ, Bool, true, false, if◌then◌els
 use Rattle.ipnet_addr.specs.Addresses.{Address}
 use Rattle.ipnet_blocks.specs.Blocks.{IsBlock}
 use Rattle.route_choices.specs.Hops.{IsHop}
-use Rattle.route_laws.specs.Batches.{AreChanges, hop_over, painted_all}
 use Rattle.route_laws.specs.LeastTables.{IsLeast}
 use Rattle.route_laws.specs.Nearest.{IsNearest}
 use Rattle.route_laws.specs.Operations.{Operation, after_all, between}
+use Rattle.route_laws.specs.Painted.{AreChanges, hop_over, painted_all}
 use Rattle.route_laws.specs.Tables.{Route, hop_at, with_route}
 
 -- A route is installed already; or changes are reported, and a nearest table with the hops after them is to be installed if the

@@ -2,7 +2,7 @@
 ghost use Rattle.route_laws.specs.Fewest.{FewestByHalves, FewestOfHost, GivenHops, HopsOfTable, LeastIsFewest};
 ghost use Rattle.route_laws.specs.Laws.{AllThenDel, BlocksOfChoices, ChangedByChoices, ChoicesAfter, ChoicesHaveOneHop, MatchOfChoices, NetworkRestored, NoneIsFree, OthersAreFree, RoutesAreTable, RoutesOfAdd, RoutesOfDel, RoutesOfOverwrite, SameTables, StaysStored, MatchIsLongest, GovernedMatch, GovernedBound, StaysTable, ChangedIsMaximal, AddedHaveOneHop, LeftHaveOneHop, ChangedByAdd, ChangedByDel, BlocksOfAdd, BlocksOfDel, GovernedAfter, AddThenDel, OtherFamilyAfterAdd, OtherFamilyAfterDel, FlatIsShortest, ShortestIsFlat, FlatIsAdmissible, SameFlat, SearchIsFlat, OwnIsMaximal, FlatIsBounded, FlatIsTable, FlatReadded, FlatRebuilds, ReaddedAreNew, OverwriteIsTable, HopsOfOverwrite, PagesAreRoutes, PagesEnd, MembersAfterAdd, MembersAfterDel, MatchAfterAdd, MatchAfterDel, ChangedIsShortest, ShortestIsChanged, MaximalIsChanged, EmptyIsFlat, OneRouteIsChanged, OneRouteHops, OneRouteIsFlat};
 
-pub use crate::operations::{batches, between, nearest, runs};
+pub use crate::operations::{between, nearest, paints, runs};
 pub use route_choices::laws::choices;
 
 /// The match of a block is the longest stored network that contains it. Each address that a block governs has the same match as the

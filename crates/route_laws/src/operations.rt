@@ -1,6 +1,6 @@
 //! Theorems about the operations that turn one table into another.
-ghost use Rattle.route_laws.specs.Nearest.{FewestIsNearest, LeastIsNearest, NearestIsFewest, NearestIsHitless, NearestIsNoMore};
-ghost use Rattle.route_laws.specs.OperationLaws.{BatchIsHitless, BatchReaches, BetweenIsFewest, BetweenIsHitless, BetweenReaches, FewOperations, GivenReaches, GivesHitless, GivesWhatItSays, HandedByNone, HandedByParent, HopsOfBatch, HopsOfPainted, KeepsHops, PaintedIsTable, SyncIsLeast, SyncIsUnseen, SyncStays, ToldAreChanges, ToldIsFewest};
+ghost use Rattle.route_laws.specs.Nearest.{FewestIsNearest, LeastIsNearest, NearestIsBounded, NearestIsFewest, NearestIsHitless};
+ghost use Rattle.route_laws.specs.OperationLaws.{BetweenIsFewest, BetweenIsHitless, BetweenReaches, GivenReaches, GivesHitless, GivesWhatItSays, HopsOfChanges, HopsOfPainted, KeepsHops, PaintedIsTable, SyncIsLeast, SyncIsUnseen, SyncStays, ToldAreChanges, ToldIsFewest};
 
 /// The operations between two tables turn the first into the second. On the way each address changes its hop at most once, from its
 /// hop in the first table to that in the second. No shorter sequence of operations makes the second table.
@@ -10,29 +10,24 @@ pub fn between()
     ensures fewest { BetweenIsFewest }
 {}
 
-/// The operations of a sequence of changes. A change gives all addresses of its block its hop, and changes no other address. If no two
-/// changes have a common address, as those of a leader's reply, each address changes its hop at most once.
-pub fn batches()
+/// Changes of a table, one after another, as calls of `paint` make them. A change gives all addresses of its block its hop, and changes no
+/// other address. The maximal blocks whose hop differs in two tables, as in a leader's reply, are such changes.
+pub fn paints()
     ensures table { PaintedIsTable }
     ensures hops { HopsOfPainted }
-    ensures few { FewOperations }
-    ensures handed { HandedByParent }
-    ensures top { HandedByNone }
-    ensures reaches { BatchReaches }
-    ensures hops_after { HopsOfBatch }
-    ensures hitless { BatchIsHitless }
+    ensures hops_after { HopsOfChanges }
     ensures told { ToldAreChanges }
 {}
 
 /// Tables with given hops that are nearest to a table: no table with these hops is fewer operations away. The operations that turn a
 /// table into a nearest one are the fewest of all that give each address its hop. All fewest operations lead to nearest tables. On the
-/// way each address changes its hop at most once. The same changes one after another take no fewer operations. A table is least exactly
-/// if it is nearest to the empty table.
+/// way each address changes its hop at most once. Changes of blocks take at most one operation each, and one for each route strictly
+/// inside their blocks. A table is least exactly if it is nearest to the empty table.
 pub fn nearest()
     ensures fewest { NearestIsFewest }
     ensures nearest { FewestIsNearest }
     ensures hitless { NearestIsHitless }
-    ensures no_more { NearestIsNoMore }
+    ensures bound { NearestIsBounded }
     ensures least { LeastIsNearest }
 {}
 

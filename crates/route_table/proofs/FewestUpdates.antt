@@ -14,17 +14,17 @@ use Rattle.nearest_table.specs.Nearest as near
 use Rattle.nearest_table.specs.Told.{told_hop}
 use Rattle.route_choices.specs.Hops.{IsHop}
 use Rattle.route_choices.proofs.Kept.{In-from_filter, In-map, map_append}
-use Rattle.route_laws.specs.Batches.{AreChanges, painted_all}
 use Rattle.route_laws.specs.Fewest.{GivesInside}
 use Rattle.route_laws.specs.LeastTables.{HasHops}
 use Rattle.route_laws.specs.Nearest.{AreUpdates}
 use Rattle.route_laws.specs.Networks.{Stored, best_route, routes_of}
 use Rattle.route_laws.specs.Operations.{Remove, between, installs, is_held, missing, removes, surplus}
+use Rattle.route_laws.specs.Painted.{AreChanges, painted_all}
 use Rattle.route_laws.specs.Tables.{Route, IsTable, hop_at, is_stored}
-use Rattle.route_laws.proofs.Batches.{Changes, changes_from}
 use Rattle.route_laws.proofs.Families.{both_have, part_gives}
 use Rattle.route_laws.proofs.Insides.{rising, sound}
 use Rattle.route_laws.proofs.Networks.{routes_are_table}
+use Rattle.route_laws.proofs.Painted.{Changes, changes_from}
 use Rattle.route_table.specs.Given.{AreFamilies}
 use Rattle.route_table.specs.InnerLeast.{entries_of, entry_of}
 use Rattle.route_table.specs.InnerSides.{IsSide, block_at}

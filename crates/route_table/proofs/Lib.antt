@@ -37,6 +37,5 @@ pub mod FewestUpdates
 pub mod LeastBits
 pub mod Looks
 pub mod Paints
-pub mod Repaints
 pub mod UpdateRows
 pub mod Updating

@@ -6,14 +6,14 @@ use Rattle.ipnet_blocks.specs.Blocks.{HasAddress, bit_string, family_block, host
 use Rattle.least_table.specs.Tables as bits
 use Rattle.nearest_table.specs.Told.{told_hop}
 use Rattle.trie_core.proofs.Numbers.{number_bound}
-use Rattle.route_laws.specs.Batches.{hop_over, painted_all}
 use Rattle.route_laws.specs.Fewest.{hop_under}
 use Rattle.route_laws.specs.Overwritten.{overwritten}
+use Rattle.route_laws.specs.Painted.{hop_over, painted_all}
 use Rattle.route_laws.specs.Tables.{Route, IsTable, hop_at}
-use Rattle.route_laws.proofs.Batches.{Changes, batch_hops}
 use Rattle.route_laws.proofs.Families.{hop_is, in_family, part_hops}
 use Rattle.route_laws.proofs.Insides.{table_of}
 use Rattle.route_laws.proofs.Overwritten.{over_back, over_is_table, over_under, routes_placed}
+use Rattle.route_laws.proofs.Painted.{Changes, painted_all_hops}
 use Rattle.route_table.specs.InnerLeast.{address_at, hops_of}
 use Rattle.route_table.specs.InnerUpdates.{overwritten_all}
 use Rattle.route_table.proofs.FamilyBits.{hop_bits}
@@ -62,4 +62,4 @@ told_bits f M C rs m c e s l =
     ∙ ap (λ k. bits.hop_under k (bits_of f C) (bit_string (host x))) (part_bits f M m None x a refl ∙ hop_is M x)
     ∙ part_bits f C t (hop_at M x) x a refl
     ∙ ap (λ N. hop_under (hop_at M x) N x) e ∙ overlay_under rs [] empty c (hop_at M x) x a
-    ∙ sym (batch_hops M rs m c x a)
+    ∙ sym (painted_all_hops M rs m c x a)

@@ -7,10 +7,10 @@ use Rattle.ipnet.specs.declared.ip_net.IpNet.{IpNet}
 use Rattle.route_choices.specs.declared.hop.Hop.{Hop}
 use Rattle.route_choices.specs.Hops.{number_of}
 use Rattle.route_choices.proofs.Kept.{filter_map_swap}
-use Rattle.route_laws.specs.Batches.{painted}
 use Rattle.route_laws.specs.Changes.{same_number}
 use Rattle.route_laws.specs.Networks.{Stored, best_route, networks_outside, routes_of}
 use Rattle.route_laws.specs.Overwritten.{overwritten, without_inside}
+use Rattle.route_laws.specs.Painted.{painted}
 use Rattle.route_laws.specs.Tables.{Route, IsTable, item_of, match_number, match_of}
 use Rattle.route_laws.proofs.Handed.{handed_by_parent}
 use Rattle.route_laws.proofs.NetworksAt.{of_network_at}

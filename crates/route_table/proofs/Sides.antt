@@ -3,10 +3,10 @@ use Rattle.std.proofs.Common.{◌≡◌, inl, inr, ⊎_elim, Bool, true, false, 
 use Rattle.std.specs.FinMap.{from_entries}
 use Rattle.std.proofs.lemmas.List.{append_assoc, map-append}
 use Rattle.std.proofs.lemmas.List.Elements.{filter-append}
-use Rattle.ipnet_addr.specs.Addresses.{Address, Family, Ipv4, Ipv6, rank, same_family}
+use Rattle.ipnet_addr.specs.Addresses.{Family, Ipv4, Ipv6, rank, same_family}
 use Rattle.ipnet_addr.proofs.Members.{In, In-cases}
 use Rattle.ipnet_addr.proofs.Ascending.{In-from_All, All-from_In, Rising-from_pairs, pairs_from_Rising}
-use Rattle.ipnet_blocks.specs.Blocks.{Block, IsBlock, bit_string, first, host, is_before, is_inside, same_block}
+use Rattle.ipnet_blocks.specs.Blocks.{Block, IsBlock, bit_string, first, is_before, is_inside, same_block}
 use Rattle.ipnet_blocks.specs.BitStrings.{bits_cmp}
 use Rattle.route_choices.specs.Choices.{Choice, AreChoices, choices_with, choices_without}
 use Rattle.route_choices.specs.declared.hop.Hop.{Hop}
@@ -15,7 +15,7 @@ use Rattle.route_table.specs.Given.{AreFamilies}
 use Rattle.route_table.specs.InnerSides.{IsSide}
 use Rattle.route_laws.specs.Networks.{Stored, IsStoredTable, best_route, choices_at, networks_outside, routes_of, with_choice, with_choices, with_stored, without_choice, without_stored}
 use Rattle.route_laws.specs.Onwards.{count_of}
-use Rattle.route_laws.specs.Tables.{Route, IsTable, covering, hop_at, longest, match_number, match_of, routes_inside}
+use Rattle.route_laws.specs.Tables.{Route, IsTable, covering, longest, match_of, routes_inside}
 use Rattle.route_table.specs.Tries.{map_of}
 use Rattle.route_laws.proofs.Networks.{routes_are_table, stored_block, stored_some, stored_choices}
 use Rattle.route_laws.proofs.Ordered.{Earlier}
@@ -181,22 +181,11 @@ module _ (a b : List Stored) (sides : IsSide Ipv4 a × IsSide Ipv6 b) where
     pub without_choice_side : (h : Hop) → without_choice (a ++ b) n h ≡ with_side n.family (without_choice (side n.family) n h)
     without_choice_side h = ap (λ cs. with_choices (a ++ b) n (choices_without cs h)) choices_side ∙ with_choices_side (choices_without (choices_at (side n.family) n) h)
 
--- an address has its hop of the side of its family: the other side may be left out
-pub same_hop_v4 : (a b none : List Stored) → IsSide Ipv4 a × IsSide Ipv6 b → none ≡ [] → (x : Address) → x.family ≡ Ipv4 → hop_at (routes_of (a ++ none)) x ≡ hop_at (routes_of (a ++ b)) x
-same_hop_v4 a b none sides e x f =
-    ap (λ T. hop_at (routes_of T) x) (ap (λ c. a ++ c) e ∙ append-nil a)
-    ∙ sym (ap match_number (match_side a b sides (host x) ∙ ap (λ g. match_of (routes_of (side a b sides g)) (host x)) f))
-
-pub same_hop_v6 : (a b none : List Stored) → IsSide Ipv4 a × IsSide Ipv6 b → none ≡ [] → (x : Address) → x.family ≡ Ipv6 → hop_at (routes_of (none ++ b)) x ≡ hop_at (routes_of (a ++ b)) x
-same_hop_v6 a b none sides e x f =
-    ap (λ T. hop_at (routes_of T) x) (ap (λ c. c ++ b) e)
-    ∙ sym (ap match_number (match_side a b sides (host x) ∙ ap (λ g. match_of (routes_of (side a b sides g)) (host x)) f))
-
--- the best routes of a side are of its family
 -- a table that is seen as its two sides
 pub seen_table : (a b T : List Stored) → IsSide Ipv4 a × IsSide Ipv6 b → a ++ b ≡ T → IsTable (routes_of T)
 seen_table a b T sides is = subst (λ T. IsTable (routes_of T)) is (is_table a b sides)
 
+-- the best routes of a side are of its family
 routes_of_side : (f : Family) (T : List Stored) (rs : List Route) → IsSide f T → rs ≡ routes_of T → All (λ r. r.block.family ≡ f) rs
 routes_of_side f T rs side e = subst (λ (rs : List Route). All (λ r. r.block.family ≡ f) rs) (sym e)
     (All-from_In (λ (r : Route). r.block.family ≡ f) (routes_of T) (λ r i. let t = In-map best_route T r i in

@@ -20,10 +20,10 @@ use Rattle.route_choices.specs.Choices.{default_preference}
 use Rattle.route_choices.specs.Hops.{IsHop, hop_from}
 use Rattle.route_choices.specs.declared.hop.Hop.{Hop}
 use Rattle.route_choices.proofs.Kept.{In-from_filter, In-map}
-use Rattle.route_laws.specs.Batches.{AreChanges}
 use Rattle.route_laws.specs.LeastTables.{routes_for}
 use Rattle.route_laws.specs.Operations.{Operation, Install, Remove, after, after_all, installs}
 use Rattle.route_laws.specs.Overwritten.{overwritten}
+use Rattle.route_laws.specs.Painted.{AreChanges}
 use Rattle.route_laws.specs.Tables.{Route, route_of}
 use Rattle.route_table.specs.InnerLeast.{entry_of, entries_of}
 use Rattle.route_table.specs.InnerSides.{block_at}

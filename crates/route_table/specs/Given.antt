@@ -2,15 +2,10 @@
 use Rattle.std.specs.Prelude.{◌≡◌, ◌+◌, ◌≤◌, List, [], ◌++◌, length, All, Result, IfOk, IsOk}
 use Rattle.ipnet_addr.specs.Addresses.{Family, Ipv4, Ipv6}
 use Rattle.ipnet_blocks.specs.Blocks.{Block}
-use Rattle.ipnet.specs.declared.ip_net.IpNet.{IpNet}
-use Rattle.route_choices.specs.Choices.{default_preference}
-use Rattle.route_choices.specs.declared.hop.Hop.{Hop}
-use Rattle.route_laws.specs.Batches.{painted}
 use Rattle.route_laws.specs.Bounds.{lengths_in, pieces_in}
 use Rattle.route_laws.specs.Flats.{Piece, IsAdmissible, IsFlat}
 use Rattle.route_laws.specs.Networks.{Stored, IsStoredTable}
-use Rattle.route_laws.specs.Operations.{Operation, between}
-use Rattle.route_laws.specs.Tables.{Route, IsTable, hop_at, route_of}
+use Rattle.route_laws.specs.Tables.{Route, IsTable, hop_at}
 
 -- the result is a table without networks
 pub record IsEmptied {E : Type 0} (result : Result (List Stored) E) : Type 0 where
@@ -36,7 +31,3 @@ pub record IsFlatOf (M : List Route) (ps : List Piece) : Type 0 where
   pub shortest : (bs : List Block) → IsAdmissible (hop_at M) bs → length ps ≤ length bs
   pub bound : (f : Family) → length (pieces_in f ps) ≤ 1 + lengths_in f M
   pub table : IsTable M
-
--- the operations that give all addresses of the network this hop
-abbrev pub repainted : List Route → IpNet → Hop → List Operation
-repainted M net hop = between M (painted M (route_of net hop default_preference))

@@ -14,5 +14,4 @@ pub mod InnerFlattening
 pub mod InnerOwning
 pub mod InnerLeast
 pub mod InnerBetween
-pub mod InnerRepaint
 pub mod InnerUpdates

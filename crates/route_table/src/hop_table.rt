@@ -6,11 +6,10 @@ ghost use Rattle.prefix_trie.specs.declared.refused.Refused.TheVariants.{Memory}
 ghost use Rattle.route_choices.specs.Choices.{default_preference};
 ghost use Rattle.route_laws.specs.LeastTables.{routes_for};
 ghost use Rattle.route_laws.specs.Networks.{IsStoredTable, choices_at, routes_of};
-ghost use Rattle.route_laws.specs.Tables.{IsTable, route_of, routes_inside, with_route, without_block};
-ghost use Rattle.route_table.specs.Given.{AreRoutes, IsEmptied, IsFlatOf};
+ghost use Rattle.route_laws.specs.Tables.{IsTable, route_of, with_route, without_block};
+ghost use Rattle.route_table.specs.Given.{IsEmptied, IsFlatOf};
 
 use crate::flat::Flat;
-use crate::routes::Routes;
 use crate::table::{Table, cleared};
 use ipnet::IpNet;
 use prefix_trie::Refused;
@@ -20,8 +19,8 @@ use std::alloc::{AllocError, Global};
 /// A table with one hop for each stored network, of both families. A network takes less than a quarter of the memory that it takes in a
 /// `RouteTable`, which has room for eight routes.
 ///
-/// Contracts see the same list as for a `RouteTable`; each network has one route. Only `from_routes`, `least` and `into_least` allocate,
-/// and `install`, `overwrite` and `paint` of a network that isn't stored. A table is `Send` and `Sync`.
+/// Contracts see the same list as for a `RouteTable`; each network has one route. Only `from_routes`, `least`, `into_least` and `updates`
+/// allocate, and `install`, `overwrite`, `paint` and `carry_out` where they store a new network. A table is `Send` and `Sync`.
 pub type HopTable = Table<1>;
 
 impl HopTable {
@@ -98,17 +97,6 @@ impl HopTable {
         match *net {
             IpNet::V4(net) => self.v4.remove(net),
             IpNet::V6(net) => self.v6.remove(net),
-        }
-    }
-
-    /// The routes inside the network, ascending.
-    pub(crate) fn inside(&self, net: &IpNet) -> Routes<'_>
-        requires { IsBlock (block net.now) }
-        ensures { AreRoutes (routes_of self.now) (routes_inside (routes_of self.now) (block net.now)) result }
-    {
-        match *net {
-            IpNet::V4(net) => Routes::v4(self.v4.list(net)),
-            IpNet::V6(net) => Routes::v6(self.v6.list(net)),
         }
     }
 

@@ -10,8 +10,8 @@ use crate::refused::AddRefused;
 pub use prefix_trie::laws::refusals;
 pub use route_choices::laws::hops;
 pub use route_laws::laws::{
-    batches, best_routes, between, changed, changed_networks, changes, choices, fewest, flat, held,
-    kept, matches, networks, one_route, overwrites, pages, runs,
+    best_routes, between, changed, changed_networks, changes, choices, fewest, flat, held, kept,
+    matches, nearest, networks, one_route, overwrites, pages, paints, runs,
 };
 
 /// `==` holds exactly for equal refusals. A clone of a refusal equals it, and cloning never fails.

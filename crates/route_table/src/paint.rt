@@ -6,9 +6,9 @@ ghost use Rattle.ipnet.specs.IpNets.{block};
 ghost use Rattle.prefix_trie.specs.declared.refused.Refused.TheVariants.{Memory};
 ghost use Rattle.route_choices.specs.Choices.{default_preference};
 ghost use Rattle.route_choices.specs.Hops.{number_of};
-ghost use Rattle.route_laws.specs.Batches.{painted};
 ghost use Rattle.route_laws.specs.Networks.{IsStoredTable, choices_at, routes_of};
 ghost use Rattle.route_laws.specs.Overwritten.{without_inside};
+ghost use Rattle.route_laws.specs.Painted.{painted};
 ghost use Rattle.route_laws.specs.Tables.{IsTable, hop_at, match_number, match_of, route_of};
 
 use crate::hop_table::HopTable;

@@ -153,13 +153,6 @@ fn installed(rt: &impl Abort, table: &mut HopTable) {
     assert!(rt; matches!(table.get(&host), Some((_, Hop::Number(2), 100))));
 }
 
-/// The first operation of a change.
-fn repainted(rt: &impl Abort, table: &HopTable) {
-    let half = net(rt, "10.0.0.0/9");
-    let first = table.repaint(half, Hop::Number(1)).next();
-    assert!(rt; matches!(first, Some(Operation::Remove { .. })));
-}
-
 /// Hop 1 for the half too, by one operation.
 fn updated(rt: &impl Abort, table: &mut HopTable) {
     let half = net(rt, "10.0.0.0/9");
@@ -197,7 +190,6 @@ fn painted(rt: &impl Abort, table: &mut HopTable) {
 fn two_hops(rt: HostRuntime) {
     let mut table = HopTable::new(rt.alloc()).expect(&rt, "a table");
     installed(&rt, &mut table);
-    repainted(&rt, &table);
     overwritten(&rt, &mut table);
     painted(&rt, &mut table);
 }

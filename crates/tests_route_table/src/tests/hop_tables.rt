@@ -22,8 +22,6 @@ enum Step {
     Get(&'static [(&'static str, &'static str)]),
     /// `flat`: the pieces.
     Flat(&'static str),
-    /// `repaint`: changes, and the operations for each.
-    Repaint(&'static [(&'static str, &'static str)]),
     /// `updates` and `carry_out`: changes, the number of operations that carry them out, and the flat list after that.
     Update(&'static str, usize, &'static str),
     /// `between`: the operations that turn this table into a table painted with these routes.
@@ -82,17 +80,8 @@ fn between(rt: &impl Abort, alloc: Global, old: &HopTable, text: &str, wanted: &
     operations_are(rt, old.between(list.as_slice()), wanted);
 }
 
-/// Checks the operations for each change.
-fn repaint(rt: &impl Abort, table: &HopTable, rows: &[(&str, &str)]) {
-    for (change, wanted) in rows {
-        let (net, hop) = route(rt, change);
-        operations_are(rt, table.repaint(net, hop), wanted);
-    }
-}
-
-/// Checks the number of the operations that carry out the changes of the text, and the flat list after them.
-fn update(rt: &impl Abort, alloc: Global, table: &mut HopTable, row: &(&str, usize, &str)) {
-    let (text, count, pieces) = *row;
+/// Makes the changes of the text by `updates` and `carry_out`, and checks the number of operations.
+fn carry_out(rt: &impl Abort, alloc: Global, table: &mut HopTable, text: &str, count: usize) {
     let mut changes = Vec::new(alloc);
     for words in text.split_terminator(',') {
         changes.push(route(rt, words.trim())).expect(rt, "memory");
@@ -100,6 +89,12 @@ fn update(rt: &impl Abort, alloc: Global, table: &mut HopTable, row: &(&str, usi
     let updates = table.updates(changes.as_slice()).expect(rt, "memory");
     row_is(rt, text, updates.len(), count);
     row_is(rt, text, table.carry_out(updates.as_slice()), Ok(()));
+}
+
+/// Checks the number of the operations that carry out the changes of the text, and the flat list after them.
+fn update(rt: &impl Abort, alloc: Global, table: &mut HopTable, row: &(&str, usize, &str)) {
+    let (text, count, pieces) = *row;
+    carry_out(rt, alloc, table, text, count);
     flat_is(rt, alloc, table.flat(), pieces);
 }
 
@@ -125,11 +120,19 @@ fn go(rt: &impl Abort, alloc: Global, table: &mut HopTable, step: &Step) {
         Step::Change(call, text) => changes(rt, table, *call, text),
         Step::Get(rows) => matches_are(rt, table, rows),
         Step::Flat(pieces) => flat_is(rt, alloc, table.flat(), pieces),
-        Step::Repaint(rows) => repaint(rt, table, rows),
         Step::Update(text, count, pieces) => update(rt, alloc, table, &(*text, *count, *pieces)),
         Step::Between(text, wanted) => between(rt, alloc, table, text, wanted),
         Step::FromRoutes => is_rebuilt(rt, alloc, table),
     }
+}
+
+/// Checks the least table.
+fn least_is(rt: &impl Abort, alloc: Global, row: &str, table: HopTable, least: &str) {
+    let mut list = Vec::new(alloc);
+    for route in table.into_least().expect(rt, "memory") {
+        list.push(route).expect(rt, "memory");
+    }
+    routes_are(rt, row, list.as_slice(), least);
 }
 
 /// Checks the steps in order, from an empty table, and the least table after them.
@@ -138,11 +141,16 @@ fn goes(rt: &impl Abort, alloc: Global, row: &str, steps: &[Step], least: &str) 
     for step in steps {
         go(rt, alloc, &mut table, step);
     }
-    let mut list = Vec::new(alloc);
-    for route in table.into_least().expect(rt, "memory") {
-        list.push(route).expect(rt, "memory");
-    }
-    routes_are(rt, row, list.as_slice(), least);
+    least_is(rt, alloc, row, table, least);
+}
+
+/// Checks the number of operations for one change of the nested networks, and the least table after them.
+fn changes_alone(rt: &impl Abort, alloc: Global, row: &(&str, usize, &str)) {
+    let (text, count, least) = *row;
+    let mut table = hop_table(rt, alloc);
+    changes(rt, &mut table, Change::Paint, NESTED);
+    carry_out(rt, alloc, &mut table, text, count);
+    least_is(rt, alloc, text, table, least);
 }
 
 /// Nested networks of both families.
@@ -153,37 +161,58 @@ const NESTED: &str =
 const NESTED_LEAST: &str =
     "10.0.0.0/8 1, 10.0.0.0/9 2, 10.0.0.0/16 1, 2001:db8::/34 2, 2001:db8:8000::/33 1";
 
-/// Changes, and the operations for each: an `install` if one is needed, and then the `remove`s.
-const REPAINTS: [(&str, &str); 13] = [
+/// Changes of these networks, each alone; the number of operations, and the least table after them. A route inside that has the new hop
+/// already stays.
+const ALONE: [(&str, usize, &str); 13] = [
     // the hop is the inherited one: at a stored network, at a network that isn't stored, and without an outer route
-    ("10.0.0.0/9 1", "10.0.0.0/9, 10.0.0.0/16"),
-    ("10.128.0.0/9 1", ""),
-    ("11.0.0.0/8 drop", ""),
-    ("2001:db8::/33 1", "2001:db8::/33, 2001:db8:4000::/34"),
+    (
+        "10.0.0.0/9 1",
+        1,
+        "10.0.0.0/8 1, 2001:db8::/34 2, 2001:db8:8000::/33 1",
+    ),
+    ("10.128.0.0/9 1", 0, NESTED_LEAST),
+    ("11.0.0.0/8 drop", 0, NESTED_LEAST),
+    (
+        "2001:db8::/33 1",
+        2,
+        "10.0.0.0/8 1, 10.0.0.0/9 2, 10.0.0.0/16 1, 2001:db8::/32 1",
+    ),
     // the hop is already in effect
-    ("10.0.0.0/9 2", "10.0.0.0/16"),
-    ("10.0.0.0/16 1", ""),
-    ("2001:db8:4000::/34 drop", ""),
+    (
+        "10.0.0.0/9 2",
+        1,
+        "10.0.0.0/8 1, 10.0.0.0/9 2, 2001:db8::/34 2, 2001:db8:8000::/33 1",
+    ),
+    ("10.0.0.0/16 1", 0, NESTED_LEAST),
+    ("2001:db8:4000::/34 drop", 0, NESTED_LEAST),
     // another hop for a stored network; two are `drop`, and one has host bits
-    ("10.0.0.0/9 3", "10.0.0.0/9 3, 10.0.0.0/16"),
+    (
+        "10.0.0.0/9 3",
+        2,
+        "10.0.0.0/8 1, 10.0.0.0/9 3, 2001:db8::/34 2, 2001:db8:8000::/33 1",
+    ),
     (
         "2001:db8::/32 drop",
-        "2001:db8::/32, 2001:db8::/33, 2001:db8:4000::/34",
+        2,
+        "10.0.0.0/8 1, 10.0.0.0/9 2, 10.0.0.0/16 1",
     ),
     (
         "2001:db8::1/33 drop",
-        "2001:db8::/33 drop, 2001:db8:4000::/34",
+        1,
+        "10.0.0.0/8 1, 10.0.0.0/9 2, 10.0.0.0/16 1, 2001:db8:8000::/33 1",
     ),
     // a network that isn't stored: between others, and outside all of them
-    ("10.0.0.0/12 4", "10.0.0.0/12 4, 10.0.0.0/16"),
+    (
+        "10.0.0.0/12 4",
+        2,
+        "10.0.0.0/8 1, 10.0.0.0/9 2, 10.0.0.0/12 4, 2001:db8::/34 2, 2001:db8:8000::/33 1",
+    ),
     (
         "0.0.0.0/0 5",
-        "0.0.0.0/0 5, 10.0.0.0/8, 10.0.0.0/9, 10.0.0.0/16",
+        4,
+        "0.0.0.0/0 5, 2001:db8::/34 2, 2001:db8:8000::/33 1",
     ),
-    (
-        "::/0 drop",
-        "2001:db8::/32, 2001:db8::/33, 2001:db8:4000::/34",
-    ),
+    ("::/0 drop", 2, "10.0.0.0/8 1, 10.0.0.0/9 2, 10.0.0.0/16 1"),
 ];
 
 /// Networks, and their longest matches after the script, with their hops.
@@ -261,12 +290,8 @@ static SCRIPTS: [(&str, &[Step], &str); 7] = [
         "10.0.0.0/8 1, 10.0.0.0/9 2",
     ),
     (
-        "the operations of a change, and a table of a list",
-        &[
-            Step::Change(Change::Paint, NESTED),
-            Step::Repaint(&REPAINTS),
-            Step::FromRoutes,
-        ],
+        "a table of a list",
+        &[Step::Change(Change::Paint, NESTED), Step::FromRoutes],
         NESTED_LEAST,
     ),
     (
@@ -304,5 +329,12 @@ static SCRIPTS: [(&str, &[Step], &str); 7] = [
 fn hop_tables(rt: HostRuntime) {
     for (row, steps, least) in &SCRIPTS {
         goes(&rt, rt.alloc(), row, steps, least);
+    }
+}
+
+#[test]
+fn changes_of_nested_networks(rt: HostRuntime) {
+    for row in &ALONE {
+        changes_alone(&rt, rt.alloc(), row);
     }
 }

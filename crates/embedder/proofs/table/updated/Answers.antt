@@ -1,10 +1,10 @@
 use Rattle.std.proofs.Common.{◌∙◌, map, sym, subst, ap, arith}
 use Rattle.std.proofs.lemmas.List.{length-map}
-use Rattle.route_laws.specs.Batches.{painted_all}
 use Rattle.route_laws.specs.LeastTables.{routes_for}
 use Rattle.route_laws.specs.Nearest.{IsFewestTo}
 use Rattle.route_laws.specs.Networks.{routes_of}
 use Rattle.route_laws.specs.Operations.{IsHitless, after_all}
+use Rattle.route_laws.specs.Painted.{painted_all}
 use Rattle.route_laws.specs.Tables.{hop_at}
 use Rattle.route_table.specs.Operations.{operation_of}
 use Rattle.embedder.proofs.table.updated.Goals as goal

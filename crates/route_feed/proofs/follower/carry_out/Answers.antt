@@ -6,8 +6,7 @@ use Rattle.ipnet_blocks.specs.Blocks.{has_address}
 use Rattle.route_choices.specs.Hops.{number_of}
 use Rattle.route_laws.specs.Networks.{routes_of}
 use Rattle.route_laws.specs.Tables.{hop_at}
-use Rattle.route_feed.specs.Following.{HasFirst}
-use Rattle.route_feed.specs.InnerWaiting.{changes_of, waiting_change}
+use Rattle.route_feed.specs.InnerWaiting.{waiting_change}
 use Rattle.route_feed.specs.Streams.{painted_over}
 use Rattle.route_feed.proofs.Carried.{one_more}
 use Rattle.route_feed.proofs.follower.carry_out.Goals as goal

@@ -1,8 +1,6 @@
-use Rattle.std.proofs.Common.{arith, subst}
+use Rattle.std.proofs.Common.{arith}
 use Rattle.std.proofs.lemmas.Result.{err_from_is_err_and}
 use Rattle.route_laws.specs.LeastTables.{routes_for}
-use Rattle.route_feed.specs.AddLines.{add_lines}
-use Rattle.route_feed.specs.InnerReplies.{Delivers}
 use Rattle.route_feed.proofs.Shortened.{shorten_stopped, shorten_wants, shorten_ended, shorten_known}
 use Rattle.route_feed.proofs.runs.shorten.Goals as goal
 

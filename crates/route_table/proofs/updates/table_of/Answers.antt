@@ -2,9 +2,9 @@ use Rattle.std.proofs.Common.{◌∙◌, [], ap, arith, subst}
 use Rattle.std.proofs.lemmas.List.{take_all}
 use Rattle.ipnet.specs.IpNets.{block}
 use Rattle.route_choices.specs.Choices.{default_preference}
-use Rattle.route_laws.specs.Batches.{AreChanges}
 use Rattle.route_laws.specs.LeastTables.{routes_for}
 use Rattle.route_laws.specs.Networks.{routes_of}
+use Rattle.route_laws.specs.Painted.{AreChanges}
 use Rattle.route_laws.proofs.Overwritten.{routes_overwritten}
 use Rattle.route_table.specs.InnerUpdates.{overwritten_all}
 use Rattle.route_table.proofs.Updating.{changes_next, no_changes, over_next}

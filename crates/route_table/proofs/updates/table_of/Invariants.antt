@@ -1,7 +1,7 @@
 use Rattle.std.proofs.Common.{◌≡◌, [], take}
-use Rattle.route_laws.specs.Batches.{AreChanges}
 use Rattle.route_laws.specs.LeastTables.{routes_for}
 use Rattle.route_laws.specs.Networks.{routes_of}
+use Rattle.route_laws.specs.Painted.{AreChanges}
 use Rattle.route_table.specs.InnerUpdates.{overwritten_all}
 use Rattle.route_table.proofs.updates.table_of.Given as goal
 

@@ -5,10 +5,10 @@ use Rattle.ipnet_blocks.specs.Networks.{IsTruncated}
 use Rattle.route_lines.specs.declared.note.Note.TheVariants.{Reply}
 use Rattle.route_lines.specs.declared.reply.Closing.TheVariants.{Done}
 use Rattle.route_lines.specs.declared.reply.Reply.TheVariants.{Close}
-use Rattle.route_laws.specs.Batches.{painted_all}
 use Rattle.route_laws.specs.LeastTables.{routes_for}
 use Rattle.route_laws.specs.Nearest.{IsNearest}
 use Rattle.route_laws.specs.Networks.{routes_of}
+use Rattle.route_laws.specs.Painted.{painted_all}
 use Rattle.route_laws.specs.Tables.{hop_at}
 use Rattle.route_table.specs.Operations.{network_of, operation_of}
 use Rattle.route_feed.specs.Devices.{Closes}

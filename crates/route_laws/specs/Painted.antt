@@ -1,12 +1,11 @@
--- The operations of changes; each change gives all addresses of a block one hop.
-use Rattle.std.specs.Prelude.{ℕ, if◌then◌else◌, not, ◌&&◌, List, [], ◌∷◌, ◌++◌, All, AllPairs, Option, filter, map}
+-- Changes of a table; each gives all addresses of a block one hop.
+use Rattle.std.specs.Prelude.{ℕ, ◌+◌, if◌then◌else◌, not, ◌&&◌, List, [], ◌∷◌, All, Option, filter, length, map}
 use Rattle.ipnet_addr.specs.Addresses.{Address}
-use Rattle.ipnet_blocks.specs.Blocks.{Block, IsBlock, HasAddress, has_address, is_inside, same_block}
+use Rattle.ipnet_blocks.specs.Blocks.{Block, IsBlock, has_address, is_inside, same_block}
 use Rattle.route_choices.specs.Choices.{default_preference}
 use Rattle.route_choices.specs.declared.hop.Hop.{Hop}
 use Rattle.route_choices.specs.Hops.{IsHop, number_of}
 use Rattle.route_laws.specs.Changes.{same_number}
-use Rattle.route_laws.specs.Operations.{Operation, between}
 use Rattle.route_laws.specs.Overwritten.{overwritten, without_inside}
 use Rattle.route_laws.specs.Tables.{Route, match_of, match_number}
 
@@ -20,23 +19,19 @@ abbrev pub painted_all : List Route → List Route → List Route
 painted_all M [] = M
 painted_all M (r ∷ rs) = painted_all (painted M r) rs
 
--- the operations of several changes, one change after another
-abbrev pub batch : List Route → List Route → List Operation
-batch M [] = []
-batch M (r ∷ rs) = between M (painted M r) ++ batch (painted M r) rs
-
 -- changes of blocks, each with its hop
 pub record AreChanges (rs : List Route) : Type 0 where
   pub blocks : All (λ r. IsBlock r.block) rs
   pub hops : All (λ r. IsHop r.hop) rs
 
--- no two of them have a common address
-abbrev pub AreApart : List Route → Type 0
-AreApart rs = AllPairs (λ r s. (x : Address) → HasAddress r.block x → HasAddress s.block x → ⊥) rs
-
 -- the routes strictly inside a block
 abbrev pub strictly_inside : List Route → Block → List Route
 strictly_inside M n = filter (λ s. is_inside s.block n && not (same_block s.block n)) M
+
+-- the most operations that changes take: one for each, and one for each route strictly inside its block in the table before it
+abbrev pub most_operations : List Route → List Route → ℕ
+most_operations M [] = 0
+most_operations M (r ∷ rs) = 1 + length (strictly_inside M r.block) + most_operations (painted M r) rs
 
 -- the hop of the last change whose block contains the address, or `now` if none does
 abbrev pub hop_over : Option ℕ → List Route → Address → Option ℕ
