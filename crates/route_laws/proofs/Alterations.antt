@@ -1,5 +1,5 @@
 -- Which hops an added route changes, and one that is taken out.
-use Rattle.std.proofs.Common.{◌≡◌, ◌≢◌, ◌⊎◌, ◌↔◌, inl, inr, ⊎_elim, true, false, cond, List, [], Option, Some, None, filter, refl, sym, ap, ◌∙◌, subst, arith, Contains}
+use Rattle.std.proofs.Common.{◌≡◌, ◌≢◌, ◌⊎◌, ◌↔◌, inl, inr, ⊎_elim, true, false, List, [], Option, Some, None, filter, refl, sym, ap, ◌∙◌, subst, arith, Contains}
 use Rattle.std.proofs.lemmas.Bool.{cases_Bool, cond-true, cond-false}
 use Rattle.ipnet_addr.specs.Addresses.{Family, Address, IsAddress, same_family}
 use Rattle.ipnet_blocks.specs.Blocks.{Block, IsBlock, HasAddress, is_inside, same_block, host}

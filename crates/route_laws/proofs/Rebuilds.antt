@@ -9,7 +9,6 @@ use Rattle.route_laws.proofs.FlatTables.{flat_is_table, sound}
 use Rattle.route_laws.proofs.Flats.{Sooner, flat_moved}
 use Rattle.route_laws.proofs.Ordered.{put_last, each_last, Rising-map}
 use Rattle.route_laws.proofs.TableHops.{hops_of_table}
-use Rattle.ipnet_addr.proofs.Members.{In}
 use Rattle.ipnet_blocks.specs.Blocks.{IsBefore}
 use Rattle.ipnet_blocks.proofs.Lists.{rising_cross, rising_front}
 use Rattle.route_choices.specs.Choices.{Choice, default_preference}

@@ -7,7 +7,7 @@ use Rattle.ipnet_addr.specs.Addresses.{Family, Ipv4, Ipv6, width}
 use Rattle.ipnet_addr.proofs.Members.{In, In-cases, In-left}
 use Rattle.ipnet_addr.proofs.Ascending.{All-from_In, In-from_All}
 use Rattle.ipnet_blocks.specs.BitStrings.{begins}
-use Rattle.ipnet_blocks.specs.Blocks.{Block, IsBlock, bit_string}
+use Rattle.ipnet_blocks.specs.Blocks.{IsBlock, bit_string}
 use Rattle.ipnet_blocks.specs.Networks.{IsTruncated, Network}
 use Rattle.ipnet.specs.IpNets.{block, family, net_in, network_at, parts}
 use Rattle.ipnet.specs.declared.ip_net.IpNet.{IpNet}
@@ -27,7 +27,7 @@ use Rattle.route_laws.specs.Painted.{AreChanges}
 use Rattle.route_laws.specs.Tables.{Route, route_of}
 use Rattle.route_table.specs.InnerLeast.{entry_of, entries_of}
 use Rattle.route_table.specs.InnerSides.{block_at}
-use Rattle.route_table.specs.InnerUpdates.{AddsInstalls, AddsRemoves, AreTruncated, AreWithin, GivesPath, blocks_in, installed_route, operations_of, overwritten_all, routes_in}
+use Rattle.route_table.specs.InnerUpdates.{AddsInstalls, AddsRemoves, AreTruncated, AreWithin, GivesPath, blocks_in, installed_route, overwritten_all, routes_in}
 use Rattle.route_table.specs.Operations.{network_of, operation_of}
 use Rattle.route_table.specs.declared.between.Operation as Given
 use Rattle.route_table.specs.declared.between.Operation.TheVariants as One
@@ -72,17 +72,9 @@ begins_itself [] = refl
 begins_itself (true ∷ a) = begins_itself a
 begins_itself (false ∷ a) = begins_itself a
 
--- a block that is no beginning of another has a bit
-pub some_bit : (a b : List Bool) → (begins a b ≡ true → ⊥) → 0 < length a
-some_bit [] b not_it = absurd (not_it refl)
-some_bit (x ∷ a) b not_it = omega arith
-
 -- all of these routes have strings that the block begins
 abbrev pub AreBegun : List Bool → List Route → Type 0
 AreBegun b M = (r : Route) → In r M → begins b (bit_string r.block) ≡ true
-
-pub begun_wider : (a b : List Bool) (M : List Route) → begins a b ≡ true → AreBegun b M → AreBegun a M
-begun_wider a b M e all r i = begins_through a b (bit_string r.block) e (all r i)
 
 pub begun_inside : (w : ℕ) (b : List Bool) (M : List Route) → AreBegun b M → AreInside w b (entries_of M)
 begun_inside w b M all x l out = longest_none (entries_of M) x (λ q i e.
@@ -170,9 +162,6 @@ module _ (f : Family) where
     truncated = λ t. b.truncated (a.truncated t);
   }
 
-  pub no_removes : (os : List Given.Operation) → AddsRemoves f [] os os
-  no_removes os = record { operations = sym (append-nil (map operation_of os)); truncated = λ t. t }
-
   pub removes_next : (xs : List Edit) (i : ℕ) (e : Edit) → i < length xs → e ≡ slice_index_or xs i e → (old mid new : List Given.Operation) → AddsRemoves f (take i xs) old mid → AddsRemoves f (e ∷ []) mid new
       → AddsRemoves f (take (i + 1) xs) old new
   removes_next xs i e l is old mid new a b =
@@ -212,19 +201,6 @@ none_truncated = All-from_In (λ (o : Given.Operation). IsTruncated (family (net
 pub within_front : (w : ℕ) (es front : List Edit) (e : Edit) → es ≡ front ++ e ∷ [] → AreWithin w es → AreWithin w front
 within_front w es front e is all = All-from_In (λ (d : Edit). length d.0 ≤ w) front
     (λ d i. In-from_All (λ (d : Edit). length d.0 ≤ w) es all d (subst (λ l. In d l) (sym is) (In-left d front (e ∷ []) i)))
-
--- all operations
-pub operations_are : (es4 es6 : List Edit) (o1 o2 o3 o4 : List Given.Operation) → AddsInstalls Ipv6 es6 [] o1 → AddsInstalls Ipv4 es4 o1 o2 → AddsRemoves Ipv4 es4 o2 o3 → AddsRemoves Ipv6 es6 o3 o4
-    → map operation_of o4 ≡ operations_of es4 es6
-operations_are es4 es6 o1 o2 o3 o4 a b c d =
-    let R4 = routes_in Ipv4 es4 in
-    let R6 = routes_in Ipv6 es6 in
-    let B4 = map Remove (blocks_in Ipv4 es4) in
-    let B6 = map Remove (blocks_in Ipv6 es6) in
-    d.operations ∙ ap (λ l. l ++ B6) c.operations ∙ ap (λ l. (l ++ B4) ++ B6) (b.operations ∙ ap (λ l. l ++ installs (reverse R4)) a.operations)
-    ∙ append_assoc (installs (reverse R6) ++ installs (reverse R4)) B4 B6
-    ∙ (λ i. sym (map-append Install (reverse R6) (reverse R4)) i ++ sym (map-append Remove (blocks_in Ipv4 es4) (blocks_in Ipv6 es6)) i)
-    ∙ ap (λ l. installs l ++ map Remove (blocks_in Ipv4 es4 ++ blocks_in Ipv6 es6)) (sym (reverse-append R4 R6))
 
 -- the network of a key that is made of bits
 pub network_of_bits : (f : Family) {K : Type 0} (of_bits : List Bool → K) (parts_in : K → Network) (parts_are : (s : List Bool) → parts_in (of_bits s) ≡ record { number = number_from (width f) s; len = length s })
