@@ -26,6 +26,14 @@ covered s k t x c = go (longest t x) c
     go None c = absurd (c refl)
     go (Some r) c = refl
 
+pub longer_some : (r : List Bool × Option ℕ) (m : Option (List Bool × Option ℕ)) → longer r m ≡ None → ⊥
+longer_some r None e = cc
+longer_some r (Some q) e = go (nat_lt (length r.0) (length q.0)) e
+  where
+    go : (v : Bool) → cond v (Some q) (Some r) ≡ None → ⊥
+    go true e = cc
+    go false e = cc
+
 -- a route of the whole block covers all addresses
 pub own_covers : (w : ℕ) (t : List (List Bool × Option ℕ)) (x : List Bool) → IsTable w t → longest t x ≡ None → own t ≡ None
 own_covers w t x h e = go (own t) refl
@@ -33,23 +41,11 @@ own_covers w t x h e = go (own t) refl
     some : (k : Option ℕ) (t : List (List Bool × Option ℕ)) → own t ≡ Some k → (x : List Bool) → longest t x ≡ None → ⊥
     some k [] f x e = cc
     some k (([], j) ∷ t) f x e = longer_some ([], j) (longest t x) e
-      where
-        longer_some : (r : List Bool × Option ℕ) (m : Option (List Bool × Option ℕ)) → longer r m ≡ None → ⊥
-        longer_some r None e = cc
-        longer_some r (Some q) e = go' (nat_lt (length r.0) (length q.0)) e
-          where
-            go' : (v : Bool) → cond v (Some q) (Some r) ≡ None → ⊥
-            go' true e = cc
-            go' false e = cc
     some k ((b ∷ c, j) ∷ t) f x e = some k t f x (no_longer (begins (b ∷ c) x) (b ∷ c, j) (longest t x) e)
       where
         no_longer : (v : Bool) (r : List Bool × Option ℕ) (m : Option (List Bool × Option ℕ)) → cond v (longer r m) m ≡ None → m ≡ None
         no_longer v r None e = refl
-        no_longer true r (Some q) e = absurd (go' (nat_lt (length r.0) (length q.0)) e)
-          where
-            go' : (v : Bool) → cond v (Some q) (Some r) ≡ None → ⊥
-            go' true e = cc
-            go' false e = cc
+        no_longer true r (Some q) e = absurd (longer_some r (Some q) e)
         no_longer false r (Some q) e = e
 
     go : (o : Option (Option ℕ)) → own t ≡ o → own t ≡ None

@@ -40,3 +40,5 @@ pub mod Paints
 pub mod Repaints
 pub mod UpdateRows
 pub mod Updating
+pub mod GapSteps
+pub mod Holes

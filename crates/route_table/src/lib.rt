@@ -16,6 +16,7 @@ pub use table::{RouteTable, Table};
 
 mod address_family;
 mod between;
+mod covered;
 mod family;
 mod flat;
 mod governed;

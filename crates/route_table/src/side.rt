@@ -295,7 +295,8 @@ impl<P: OfFamily> Side<P, 1> {
     /// The routes of the networks inside this one, itself included.
     pub(crate) fn list(&self, net: P) -> SideRoutes<'_, P>
         requires { IsBlock (block_of P.family (P.parts net)) }
-        ensures { result ≡ routes_inside (routes_of self.now) (block_of P.family (P.parts net)) }
+        ensures routes { result ≡ routes_inside (routes_of self.now) (block_of P.family (P.parts net)) }
+        ensures side { IsSide P.family self.now }
     {
         SideRoutes::new(Entries::Hops(self.networks.children(&net)))
     }

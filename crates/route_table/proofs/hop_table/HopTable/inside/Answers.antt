@@ -8,7 +8,7 @@ use Rattle.route_table.proofs.Sides.{seen_table, inside_side}
 use Rattle.route_table.proofs.hop_table.HopTable.inside.Goals as goal
 
 pub returns-in-V4 : goal.returns-in-V4
-returns-in-V4 c = record { routes = c.v4.ensures ∙ c.list.ensures ∙ sym (inside_side _ _ c.self.invariant (block_of Ipv4 c.in-V4.net)) ∙ (λ i. routes_inside (routes_of (c.self.view_is i)) (block (sym c.in-V4.is i))); table = seen_table _ _ _ c.self.invariant c.self.view_is }
+returns-in-V4 c = record { routes = c.v4.ensures ∙ c.list.ensures.routes ∙ sym (inside_side _ _ c.self.invariant (block_of Ipv4 c.in-V4.net)) ∙ (λ i. routes_inside (routes_of (c.self.view_is i)) (block (sym c.in-V4.is i))); table = seen_table _ _ _ c.self.invariant c.self.view_is }
 
 pub returns-in-V6 : goal.returns-in-V6
-returns-in-V6 c = record { routes = c.v6.ensures ∙ c.list-in-V6.ensures ∙ sym (inside_side _ _ c.self.invariant (block_of Ipv6 c.in-V6.net)) ∙ (λ i. routes_inside (routes_of (c.self.view_is i)) (block (sym c.in-V6.is i))); table = seen_table _ _ _ c.self.invariant c.self.view_is }
+returns-in-V6 c = record { routes = c.v6.ensures ∙ c.list-in-V6.ensures.routes ∙ sym (inside_side _ _ c.self.invariant (block_of Ipv6 c.in-V6.net)) ∙ (λ i. routes_inside (routes_of (c.self.view_is i)) (block (sym c.in-V6.is i))); table = seen_table _ _ _ c.self.invariant c.self.view_is }
