@@ -42,3 +42,5 @@ pub mod UpdateRows
 pub mod Updating
 pub mod GapSteps
 pub mod Holes
+pub mod OneChange
+pub mod OneEdits

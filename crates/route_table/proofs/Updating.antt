@@ -7,7 +7,7 @@ use Rattle.ipnet_addr.specs.Addresses.{Family, Ipv4, Ipv6, width}
 use Rattle.ipnet_addr.proofs.Members.{In, In-cases, In-left}
 use Rattle.ipnet_addr.proofs.Ascending.{All-from_In, In-from_All}
 use Rattle.ipnet_blocks.specs.BitStrings.{begins}
-use Rattle.ipnet_blocks.specs.Blocks.{Block, IsBlock, bit_string}
+use Rattle.ipnet_blocks.specs.Blocks.{IsBlock, bit_string}
 use Rattle.ipnet_blocks.specs.Networks.{IsTruncated, Network}
 use Rattle.ipnet.specs.IpNets.{block, family, net_in, network_at, parts}
 use Rattle.ipnet.specs.declared.ip_net.IpNet.{IpNet}

@@ -24,6 +24,7 @@ mod hop_run;
 mod hop_table;
 pub mod laws;
 mod least;
+mod one_change;
 mod overwrite;
 mod own_blocks;
 mod paint;
