@@ -7,7 +7,7 @@ ghost use Rattle.least_table.specs.Nearest.{IsFewest};
 ghost use Rattle.nearest_table.specs.Told.{told_hop};
 
 use nearest_table::nearest;
-use nearest_table::tables::Table;
+use nearest_table::tables::{Installed, Table};
 use std::alloc::{AllocError, Global};
 use trie_core::Path;
 
@@ -16,7 +16,7 @@ use trie_core::Path;
 ///
 /// # Errors
 /// `AllocError` if an allocation fails.
-pub fn needed<I: Table, C: Table>(
+pub fn needed<I: Installed, C: Table>(
     alloc: Global,
     installed: &I,
     changes: &C,

@@ -1,11 +1,12 @@
 -- What a table has in a block, by the list of its routes.
-use Rattle.std.proofs.Common.{◌≡◌, ℕ, suc, Bool, true, false, cond, not, List, [], ◌∷◌, length, nat_lt, Option, Some, None, refl, sym, ap, ap₂, ◌∙◌, arith}
+use Rattle.std.proofs.Common.{◌≡◌, ℕ, suc, Bool, true, false, cond, not, ◌↔◌, List, [], ◌∷◌, ◌++◌, length, nat_lt, Option, Some, None, refl, sym, ap, ap₂, ◌∙◌, arith}
 use Rattle.std.proofs.lemmas.Bool.{lt-ltb, le-ltb, ltb-true, ltb-false}
-use Rattle.nearest_table.specs.Asked.{AskedLaw, NoneInside, at, hop_if, shorter}
+use Rattle.nearest_table.specs.Asked.{AskedLaw, NoneHolds, NoneInside, at, hop_if, shorter}
 use Rattle.least_table.specs.Nearest.{same_string}
 use Rattle.least_table.specs.Wholes.{bare}
 use Rattle.nearest_table.specs.Blocks.{inner, around, innermost}
-use Rattle.least_table.specs.Tables.{half, longest, own}
+use Rattle.ipnet_blocks.specs.BitStrings.{begins}
+use Rattle.least_table.specs.Tables.{half, longer, longest, own}
 use Rattle.least_table.proofs.Split.{lifted, longest-half}
 
 at-whole : (t : List (List Bool × Option ℕ)) → own t ≡ at t []
@@ -64,6 +65,46 @@ leaf_from : (b : List Bool) (t : List (List Bool × Option ℕ)) → NoneInside 
 leaf_from [] t h = whole_from t h
 leaf_from (c ∷ b) t h = leaf_from b (half t c) (half_from t c b h)
 
+-- ---- the addresses that no route strictly inside contains
+
+longer_some : (r : List Bool × Option ℕ) (m : Option (List Bool × Option ℕ)) → longer r m ≡ None → ⊥
+longer_some r None e = cc
+longer_some r (Some q) e = go (nat_lt (length r.0) (length q.0)) e
+  where
+    go : (v : Bool) → cond v (Some q) (Some r) ≡ None → ⊥
+    go true e = cc
+    go false e = cc
+
+free_to : (t : List (List Bool × Option ℕ)) (x : List Bool) → longest (bare t) x ≡ None → NoneHolds t [] x
+free_to [] x e = tt
+free_to (([], k) ∷ t) x e = ((λ f g. refl), free_to t x e)
+free_to ((b ∷ c, k) ∷ t) x e = go (begins (b ∷ c) x) refl e (free_to t x)
+  where
+    go : (v : Bool) → begins (b ∷ c) x ≡ v → cond v (longer (b ∷ c, k) (longest (bare t) x)) (longest (bare t) x) ≡ None → (longest (bare t) x ≡ None → NoneHolds t [] x) → NoneHolds ((b ∷ c, k) ∷ t) [] x
+    go true i f more = absurd (longer_some (b ∷ c, k) (longest (bare t) x) f)
+    go false i f more = ((λ g h. let j = sym h ∙ i in cc), more f)
+
+free_from : (t : List (List Bool × Option ℕ)) (x : List Bool) → NoneHolds t [] x → longest (bare t) x ≡ None
+free_from [] x h = refl
+free_from (([], k) ∷ t) x h = free_from t x h.1
+free_from ((b ∷ c, k) ∷ t) x h = go (begins (b ∷ c) x) refl (free_from t x h.1)
+  where
+    go : (v : Bool) → begins (b ∷ c) x ≡ v → longest (bare t) x ≡ None → cond v (longer (b ∷ c, k) (longest (bare t) x)) (longest (bare t) x) ≡ None
+    go true i more = let e = h.0 refl i in cc
+    go false i more = more
+
+half_holds : (t : List (List Bool × Option ℕ)) (b : Bool) (c x : List Bool) → NoneHolds (half t b) c x ↔ NoneHolds t (b ∷ c) (b ∷ x)
+half_holds [] b c x = (λ h. h, λ h. h)
+half_holds (([], k) ∷ t) b c x = let m = half_holds t b c x in (λ h. ((λ f. cc), m.0 h), λ h. m.1 h.1)
+half_holds ((false ∷ d, k) ∷ t) false c x = let m = half_holds t false c x in (λ h. ((λ f g. ap (λ y. false ∷ y) (h.0 f g)), m.0 h.1), λ h. ((λ f g. tail_of false false d c (h.0 f g)), m.1 h.1))
+half_holds ((false ∷ d, k) ∷ t) true c x = let m = half_holds t true c x in (λ h. ((λ f. cc), m.0 h), λ h. m.1 h.1)
+half_holds ((true ∷ d, k) ∷ t) false c x = let m = half_holds t false c x in (λ h. ((λ f. cc), m.0 h), λ h. m.1 h.1)
+half_holds ((true ∷ d, k) ∷ t) true c x = let m = half_holds t true c x in (λ h. ((λ f g. ap (λ y. true ∷ y) (h.0 f g)), m.0 h.1), λ h. ((λ f g. tail_of true true d c (h.0 f g)), m.1 h.1))
+
+free_at : (b : List Bool) (t : List (List Bool × Option ℕ)) (x : List Bool) → (longest (bare (inner b t)) x ≡ None) ↔ NoneHolds t b (b ++ x)
+free_at [] t x = (free_to t x, free_from t x)
+free_at (c ∷ b) t x = let m = free_at b (half t c) x in let n = half_holds t c b (b ++ x) in (λ e. n.0 (m.0 e), λ h. m.1 (n.1 h))
+
 -- ---- around
 
 none_shorter : (t : List (List Bool × Option ℕ)) → shorter 0 t ≡ []
@@ -121,4 +162,4 @@ over_none None = refl
 over_none (Some k) = refl
 
 pub asked_law : AskedLaw
-asked_law t b = (own_at b t, (leaf_to b t, leaf_from b t), around_is b None t ∙ over_none (hop_if (longest (shorter (length b) t) b)))
+asked_law t b = (own_at b t, (leaf_to b t, leaf_from b t), around_is b None t ∙ over_none (hop_if (longest (shorter (length b) t) b)), free_at b t)

@@ -1,11 +1,12 @@
 -- Edits inside a block, as edits of the whole table.
 use Rattle.std.proofs.Common.{◌≡◌, ℕ, suc, ◌+◌, ◌-◌, ◌≤◌, Bool, true, false, List, [], ◌∷◌, ◌++◌, length, Option, Some, None, refl, sym, ap, ap₂, ◌∙◌, subst, arith, append-nil}
+use Rattle.std.proofs.lemmas.List.{nil_from_length}
 use Rattle.ipnet_blocks.specs.BitStrings.{begins}
 use Rattle.nearest_table.specs.Changed.{AreInside, MakeNearest}
-use Rattle.nearest_table.specs.Edits.{AreEdits}
+use Rattle.nearest_table.specs.Edits.{AreEdits, blocks}
 use Rattle.least_table.specs.InnerOrders.{IsInOrder}
 use Rattle.nearest_table.specs.InnerPlans.{Fits, Plans, tree_of}
-use Rattle.least_table.specs.Nearest.{IsNearest}
+use Rattle.least_table.specs.Nearest.{IsNearest, missing, surplus}
 use Rattle.nearest_table.specs.Plans.{Tree, Stay, Fork, Held, IsPlan, edits_of, new_table}
 use Rattle.least_table.specs.Trees.{inside, within, inner_of}
 use Rattle.least_table.specs.Tables.{IsTable, half, half_of, hop_of, hop_under, own, passed}
@@ -16,6 +17,8 @@ use Rattle.nearest_table.specs.declared.plans.Plan.{Plan}
 use Rattle.least_table.proofs.Stores.{within-whole, within_within}
 use Rattle.least_table.proofs.Split.{hop-half, joined, own-joined, IsTable-half}
 use Rattle.nearest_table.proofs.Builds.{passed_told}
+use Rattle.least_table.proofs.Halves.{own-whole}
+use Rattle.least_table.proofs.Makes.{distance-self}
 use Rattle.nearest_table.proofs.Locals.{local_law}
 use Rattle.least_table.proofs.Owns.{own-bare, half-bare}
 use Rattle.nearest_table.proofs.NewOrders.{ordered_new, ordered_put}
@@ -112,3 +115,17 @@ pub fits_plan : (w : ℕ) (h : List Bool → Option ℕ) (t : List (List Bool ×
 fits_plan w h t (Stay hops) plan = tt
 fits_plan w h t (Fork hops l r) plan = (plan.0, plan.1, fits_plan plan.0 (half_of false h) (half t false) l plan.4, fits_plan plan.0 (half_of true h) (half t true) r plan.5)
 fits_plan w h t (Held k p) plan = fits_plan w h (bare t) p plan.1
+
+-- without changes the table stays
+pub made_none : (w : ℕ) (t : List (List Bool × Option ℕ)) → IsTable w t → IsInOrder t → MakeNearest w [] t []
+made_none w t table order =
+    let none = distance-self w t table in
+    record {
+      table = t;
+      nearest = record { gives = record { table = table; same = λ x l. refl }; nearest = λ v g. omega (arith, none) };
+      order = order;
+      edits = record {
+        installs = sym (nil_from_length (missing t t) (omega (arith, none)));
+        removes = sym (ap blocks (nil_from_length (surplus t t) (omega (arith, none))));
+      };
+    }

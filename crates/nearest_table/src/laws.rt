@@ -13,7 +13,8 @@ pub fn plans()
     ensures edits { EditsLaw }
 {}
 
-/// The route of a block, whether routes are strictly inside it, and the longest route strictly around it, by the list of routes.
+/// The route of a block, whether routes are strictly inside it, the longest route strictly around it, and the addresses that no route
+/// strictly inside contains, by the list of routes.
 pub fn asked()
     ensures { AskedLaw }
 {}

@@ -14,7 +14,7 @@ ghost use Rattle.nearest_table.specs.Wanted.{Rises, hops_from};
 ghost use Rattle.nearest_table.specs.declared.plans.Plan as Plan;
 
 use crate::hops::{Wanted, first_wanted, is_wanted, merge};
-use crate::tables::{Table, covers};
+use crate::tables::{Installed, Table};
 use least_table::hops::is_same;
 use std::alloc::{AllocError, Global};
 use std::slice;
@@ -175,7 +175,7 @@ fn owned(alloc: Global, own: Option<Option<u32>>, plan: Plan) -> Result<Plan, Al
 /// The plan of a block that needs no cut, or none if it must be cut. A block with a change strictly inside is cut. One whose addresses get
 /// a new hop is cut if it has a route strictly inside. `told` is the hop of the longest change that contains the block, if there is one,
 /// and `held` that of its route.
-fn end<I: Table, C: Table>(
+fn end<I: Installed, C: Table>(
     alloc: Global,
     installed: &I,
     changes: &C,
@@ -197,7 +197,7 @@ fn end<I: Table, C: Table>(
         return Ok(None);
     }
     let Some(hop) = told else {
-        if covers(installed, block) {
+        if held.is_some() || installed.is_covered(block) {
             return Ok(Some(Plan::Idle));
         }
         return Ok(Some(Plan::One(old)));
@@ -211,7 +211,7 @@ fn end<I: Table, C: Table>(
 
 /// The plan of a block that inherits the hop `old` from the installed routes around it. `told` is the hop of the longest change around
 /// it, if there is one.
-fn make_plan<I: Table, C: Table>(
+fn make_plan<I: Installed, C: Table>(
     alloc: Global,
     installed: &I,
     changes: &C,
@@ -279,7 +279,7 @@ fn hop_or(route: Option<Option<u32>>, other: Option<u32>) -> Option<u32>
 ///
 /// # Errors
 /// `AllocError` if an allocation fails.
-pub fn nearest<I: Table, C: Table>(
+pub fn nearest<I: Installed, C: Table>(
     alloc: Global,
     installed: &I,
     changes: &C,

@@ -1,6 +1,6 @@
 //! Tables of routes, as searches of blocks see them.
 ghost use Rattle.std.specs.Prelude.{◌≡◌, ◌-◌, ℕ, ◌≤◌, List, [], Bool, Option, None, length, true, ◌↔◌};
-ghost use Rattle.least_table.specs.Tables.{IsTable, own};
+ghost use Rattle.least_table.specs.Tables.{own};
 ghost use Rattle.least_table.specs.Wholes.{bare};
 ghost use Rattle.nearest_table.specs.Blocks.{inner, around, IsCovered};
 
@@ -30,21 +30,10 @@ pub trait Table {
         ensures { (result ≡ true) ↔ (bare (inner block.now (routes self.now)) ≡ []) };
 }
 
-/// Whether each address of the block is in a route inside the block.
-pub(crate) fn covers<T: Table>(table: &T, block: &Path) -> bool
-    requires short { T.width ≤ 128 }
-    requires fits { length block.now ≤ T.width }
-    requires table { IsTable (T.width - length block.now) (inner block.now (T.routes table.now)) }
-    ensures { IsCovered result (T.width - length block.now) (inner block.now (T.routes table.now)) }
-{
-    if table.own(block).is_some() {
-        return true;
-    }
-    if table.is_leaf(block) {
-        return false;
-    }
-    if !covers(table, &block.extended(false)) {
-        return false;
-    }
-    covers(table, &block.extended(true))
+/// An installed table, which also tells whether the routes inside a block leave a gap.
+pub trait Installed: Table {
+    /// Whether each address of the block is in a route strictly inside the block.
+    fn is_covered(&self, block: &Path) -> bool
+        requires { length block.now ≤ Self.width }
+        ensures { IsCovered result (Self.width - length block.now) (bare (inner block.now (Self.routes self.now))) };
 }

@@ -18,7 +18,7 @@ use Rattle.ipnet_blocks.proofs.Unions.{maximal_same}
 use Rattle.route_choices.specs.Hops.{IsHop}
 use Rattle.route_choices.proofs.Kept.{In-from_filter, In-filter, Rising-kept, all_kept}
 use Rattle.route_laws.specs.Tables.{Route, IsTable, Governed, routes_inside}
-use Rattle.route_table.specs.InnerGoverning.{gap_before, gaps, blocks_of_spans}
+use Rattle.route_table.specs.InnerGoverning.{GovernsNone, gap_before, gaps, blocks_of_spans}
 use Rattle.route_laws.proofs.Matches.{block_in, inside_from_test, test_from_inside}
 use Rattle.route_laws.proofs.Updates.{Sooner}
 
@@ -142,7 +142,7 @@ module _ (M : List Route) (table : IsTable M) (n : Block) (ok : IsBlock n) where
   family_of : (r : Route) → In r (routes_inside M n) → r.block.family ≡ n.family
   family_of r i = let t = inside_of r i in (numbers_from_inside r.block n (block_in M table r t.0) ok t.1).family
 
-  routes_end : EndBy (last n) (routes_inside M n)
+  pub routes_end : EndBy (last n) (routes_inside M n)
   routes_end r i =
       let t = inside_of r i in
       let h = (block_is_interval n (last_of r.block)).0 (t.1 (last_of r.block) ((block_is_interval r.block (last_of r.block)).1 (refl, first_to_last r.block, omega arith))) in
@@ -183,6 +183,17 @@ module _ (M : List Route) (table : IsTable M) (n : Block) (ok : IsBlock n) where
             let b = (block_is_interval r.block x).0 has in
             free.free s.0 x.number s.1 i (r, In-filter (λ (t : Route). is_inside t.block n) M r j (test_from_inside r.block n k ok larger.0), larger_is_shorter n r.block ok k larger, b.1, b.2);
       }
+
+  -- if there is a gap, the block governs its first address, else none
+  pub gap_governs : (s : Span) (spans : List Span) → gaps n.len (first n) (last n) (routes_inside M n) ≡ s ∷ spans → GovernsNone false M n
+  gap_governs s spans e =
+      let x : Address = record { family = n.family; number = s.first } in
+      let i : In s (gaps n.len (first n) (last n) (routes_inside M n)) = subst (λ l. In s l) (sym e) (inl refl) in
+      let w = free.within s i in
+      (x, in_governed x (refl, Any-from_In (IsIn x.number) _ s i (omega arith, (let o = w.1 in omega arith))))
+
+  pub no_gap_governs : gaps n.len (first n) (last n) (routes_inside M n) ≡ [] → GovernsNone true M n
+  no_gap_governs e x g = let t = In-from_Any (IsIn x.number) _ (governed_in x g).1 in absurd (subst (λ l. In t.0 l) e t.1)
 
   top : last n < 2 ^ width n.family
   top = member_is_address n (last_of n) ok ((block_is_interval n (last_of n)).1 (refl, first_to_last n, omega arith))

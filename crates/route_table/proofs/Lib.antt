@@ -39,3 +39,7 @@ pub mod Looks
 pub mod Paints
 pub mod UpdateRows
 pub mod Updating
+pub mod GapSteps
+pub mod Holes
+pub mod OneChange
+pub mod OneEdits

@@ -1,7 +1,7 @@
 -- The addresses that a network governs, as the gaps between the routes inside it.
-use Rattle.std.specs.Prelude.{◌≡◌, ℕ, ◌+◌, ◌-◌, ◌<◌, ◌≤◌, ◌^◌, true, nat_lt, cond, max, length, List, [], ◌∷◌, ◌++◌, Option, MatchOption, All}
+use Rattle.std.specs.Prelude.{◌≡◌, ℕ, ◌+◌, ◌-◌, ◌<◌, ◌≤◌, ◌^◌, Bool, true, false, nat_lt, cond, max, length, List, [], ◌∷◌, ◌++◌, Option, MatchOption, All}
 use Rattle.std.specs.List.{flat_map}
-use Rattle.ipnet_addr.specs.Addresses.{Family, width}
+use Rattle.ipnet_addr.specs.Addresses.{Address, Family, width}
 use Rattle.ipnet_blocks.specs.Blocks.{Block, first, last}
 use Rattle.ipnet_blocks.specs.Cuts.{cut}
 use Rattle.ipnet_blocks.specs.InnerSpans.{limits_of}
@@ -9,7 +9,7 @@ use Rattle.ipnet_blocks.specs.declared.aggregate.Span.{Span}
 use Rattle.ipnet.specs.IpNets.{family, parts}
 use Rattle.ipnet.specs.IpSubnets.{ip_cut}
 use Rattle.ipnet.specs.declared.subnets.IpSubnets.{IpSubnets}
-use Rattle.route_laws.specs.Tables.{Route}
+use Rattle.route_laws.specs.Tables.{Governed, Route}
 use Rattle.route_table.specs.declared.governed.Gaps.{Gaps}
 use Rattle.route_table.specs.declared.governed.Step.{Step}
 use Rattle.route_table.specs.declared.governed.Step.TheVariants.{Gap, Passed, Done}
@@ -56,3 +56,13 @@ abbrev pub StepsGap : Gaps → Step → Gaps → Type 0
 StepsGap g (Gap s) h = (gaps_left g ≡ s ∷ gaps_left h) × (s.first ≤ s.last) × (s.last ≤ g.end)
 StepsGap g Passed h = (gaps_left g ≡ gaps_left h) × (length h.inside < length g.inside)
 StepsGap g Done h = (gaps_left g ≡ []) × (gaps_left h ≡ [])
+
+-- the block governs no address, or it governs one
+abbrev pub GovernsNone : Bool → List Route → Block → Type 0
+GovernsNone true M n = (x : Address) → Governed M n x → ⊥
+GovernsNone false M n = (x : Address) × Governed M n x
+
+-- the length and the numbers of the first route's block were returned, or no route was left
+abbrev pub GivesSpan : List Route → Option (ℕ × Span) → List Route → Type 0
+GivesSpan rs item left = MatchOption item ((rs ≡ []) × (left ≡ []))
+    (λ p. (r : Route) × (rs ≡ r ∷ left) × (p.0 ≡ r.block.len) × (p.1.first ≡ first r.block) × (p.1.last ≡ last r.block))

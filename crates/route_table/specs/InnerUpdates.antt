@@ -9,6 +9,7 @@ use Rattle.nearest_table.specs.Changed.{MakeNearest}
 use Rattle.nearest_table.specs.Edits.{installed_in, removed_in}
 use Rattle.route_choices.specs.Choices.{default_preference}
 use Rattle.route_choices.specs.Hops.{IsHop, hop_from}
+use Rattle.route_laws.specs.Painted.{AreChanges}
 use Rattle.route_laws.specs.Operations.{Operation, Remove, installs}
 use Rattle.route_laws.specs.Overwritten.{overwritten}
 use Rattle.route_laws.specs.Tables.{Route}
@@ -59,6 +60,11 @@ pub record MakeBoth (C M : List Route) (es4 es6 : List (List Bool × Option (Opt
   pub ipv6 : MakeNearest (width Ipv6) (entries_of changed_v6) (entries_of installed_v6) es6
   pub within_v4 : AreWithin (width Ipv4) es4
   pub within_v6 : AreWithin (width Ipv6) es6
+
+-- changes of blocks, and the edits of each family that lead to a nearest table with the hops after them
+pub record AreEditsFor (rs M : List Route) (es4 es6 : List (List Bool × Option (Option ℕ))) : Type 0 where
+  pub changes : AreChanges rs
+  pub both : MakeBoth (overwritten_all [] rs) M es4 es6
 
 -- the networks of all operations have no host bits
 abbrev pub AreTruncated : List Given.Operation → Type 0

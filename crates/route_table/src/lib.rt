@@ -15,6 +15,7 @@ pub use table::{RouteTable, Table};
 
 mod address_family;
 mod between;
+mod covered;
 mod family;
 mod flat;
 mod governed;
@@ -22,6 +23,7 @@ mod hop_run;
 mod hop_table;
 pub mod laws;
 mod least;
+mod one_change;
 mod overwrite;
 mod own_blocks;
 mod paint;

@@ -5,7 +5,7 @@ ghost use Rattle.route_table.specs.InnerLeast.{entries_of};
 
 use crate::family::OfFamily;
 use crate::side::Side;
-use nearest_table::tables::Table;
+use nearest_table::tables::{Installed, Table};
 use prefix_trie::{prefix_of, truncated};
 use trie_core::Path;
 
@@ -30,5 +30,11 @@ impl<P: OfFamily> Table for Side<P, 1> {
 
     fn is_leaf(&self, block: &Path) -> bool {
         self.networks.is_leaf(&prefix_of(block))
+    }
+}
+
+impl<P: OfFamily> Installed for Side<P, 1> {
+    fn is_covered(&self, block: &Path) -> bool {
+        self.governs_none(prefix_of(block))
     }
 }

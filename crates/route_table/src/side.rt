@@ -292,6 +292,15 @@ impl<P: OfFamily> Side<P, 1> {
         SideRoutes::new(Entries::Hops(self.networks.iter()))
     }
 
+    /// The routes of the networks inside this one, itself included.
+    pub(crate) fn list(&self, net: P) -> SideRoutes<'_, P>
+        requires { IsBlock (block_of P.family (P.parts net)) }
+        ensures routes { result ≡ routes_inside (routes_of self.now) (block_of P.family (P.parts net)) }
+        ensures side { IsSide P.family self.now }
+    {
+        SideRoutes::new(Entries::Hops(self.networks.children(&net)))
+    }
+
     /// The routes of all networks. The memory of each part of the trie is freed after the walk over it.
     ///
     /// # Errors

@@ -1,12 +1,12 @@
 //! Updates of a table by the fewest operations.
-ghost use Rattle.std.specs.Prelude.{◌≡◌, ◌≤◌, ◌<◌, ℕ, All, [], ◌∷◌, IfErr, IfOk, OnErr, OnOk, IsTrue, length, map, take};
+ghost use Rattle.std.specs.Prelude.{◌≡◌, ◌≤◌, ◌<◌, ℕ, All, [], ◌∷◌, IfErr, IfOk, MatchOption, OnErr, OnOk, IsTrue, length, map, take};
 ghost use Rattle.ipnet_addr.specs.Addresses.{Ipv4, Ipv6, width};
 ghost use Rattle.ipnet_blocks.specs.BitStrings.{begins};
 ghost use Rattle.ipnet_blocks.specs.Networks.{IsTruncated};
 ghost use Rattle.ipnet.specs.IpNets.{block, family, network_at, parts};
 ghost use Rattle.nearest_table.specs.Changed.{AreInside, MakeNearest};
 ghost use Rattle.prefix_trie.specs.declared.refused.Refused.TheVariants.{Memory};
-ghost use Rattle.route_choices.specs.Hops.{IsHop};
+ghost use Rattle.route_choices.specs.Hops.{IsHop, number_of};
 ghost use Rattle.route_laws.specs.LeastTables.{routes_for};
 ghost use Rattle.route_laws.specs.Nearest.{AreUpdates};
 ghost use Rattle.route_laws.specs.Networks.{routes_of};
@@ -15,19 +15,20 @@ ghost use Rattle.route_laws.specs.Painted.{AreChanges};
 ghost use Rattle.route_laws.specs.Tables.{IsTable};
 ghost use Rattle.route_table.specs.InnerLeast.{entries_of};
 ghost use Rattle.route_table.specs.InnerSides.{IsSide, block_at};
-ghost use Rattle.route_table.specs.InnerUpdates.{AddsInstalls, AddsRemoves, AreWithin, GivesPath, MakeBoth, operations_of, overwritten_all, routes_in};
+ghost use Rattle.route_table.specs.InnerUpdates.{AddsInstalls, AddsRemoves, AreEditsFor, AreWithin, GivesPath, MakeBoth, operations_of, overwritten_all, routes_in};
 ghost use Rattle.route_table.specs.Operations.{network_of, operation_of};
 
 use crate::between::Operation;
 use crate::family::OfFamily;
 use crate::hop_table::HopTable;
 use crate::least::hop_of;
+use crate::one_change::OneChange;
 use crate::side::Side;
 use crate::side_routes::SideRoutes;
 use crate::table::cleared;
 use ipnet::{IpNet, Ipv4Net, Ipv6Net};
 use nearest_table::nearest;
-use prefix_trie::{Key, Prefix, Refused, path_of, prefix_of, truncated};
+use prefix_trie::{Prefix, Refused, path_of, prefix_of, truncated};
 use route_choices::Hop;
 use std::alloc::{AllocError, Global};
 use trie_core::Path;
@@ -72,21 +73,17 @@ fn widened<P: OfFamily>(block: &Path, other: &Path) -> Path
     path_of(&wide)
 }
 
-/// A block that contains all networks of a side. For a side without networks it is one address.
-fn around<P: OfFamily>(side: &Side<P, 1>) -> Path
+/// A block that contains all networks of a side, or none if it has none.
+fn around<P: OfFamily>(side: &Side<P, 1>) -> Option<Path>
     requires { IsSide P.family side.now }
-    ensures fits { length result ≤ width P.family }
-    ensures inside { AreInside (width P.family) result (entries_of (routes_of side.now)) }
+    ensures { MatchOption result (routes_of side.now ≡ []) (λ b. (length b ≤ width P.family) × AreInside (width P.family) b (entries_of (routes_of side.now))) }
 {
     let mut routes = side.iter();
-    let Some(first) = next_path(&mut routes) else {
-        return Path::new(0, <P::R as Key>::width());
-    };
-    let mut block = first;
+    let mut block = next_path(&mut routes)?;
     while let Some(path) = next_path(&mut routes) {
         block = widened::<P>(&block, &path);
     }
-    block
+    Some(block)
 }
 
 /// The fewest edits of one side that give the addresses their hops after the changes.
@@ -100,7 +97,29 @@ fn edits_of<P: OfFamily>(
     ensures edits { IfOk result (λ es. MakeNearest (width P.family) (entries_of (routes_of changes.now)) (entries_of (routes_of installed.now)) es.items) }
     ensures within { IfOk result (λ es. AreWithin (width P.family) es.items) }
 {
-    nearest(alloc, installed, changes, &around(changes))
+    match around(changes) {
+        Some(block) => nearest(alloc, installed, changes, &block),
+        None => Ok(Vec::new(alloc)),
+    }
+}
+
+/// The fewest edits of one side that one change needs. Host bits of the network don't count. Nothing is allocated for the change.
+fn edits_of_one<P: OfFamily>(
+    alloc: Global,
+    installed: &Side<P, 1>,
+    net: P,
+    hop: Hop,
+) -> Result<Vec<Edit>, AllocError>
+    requires { IsSide P.family installed.now }
+    ensures edits { IfOk result (λ es. MakeNearest (width P.family) ((P.bits net, number_of hop) ∷ []) (entries_of (routes_of installed.now)) es.items) }
+    ensures within { IfOk result (λ es. AreWithin (width P.family) es.items) }
+    ensures hop { IfOk result (λ es. IsHop hop) }
+{
+    let change = OneChange {
+        net,
+        hop: hop.number(),
+    };
+    nearest(alloc, installed, &change, &path_of(&net))
 }
 
 /// The network of a block.
@@ -216,13 +235,43 @@ impl HopTable {
         ensures memory { IfErr result (λ e. e ≡ Memory) }
         ensures table { IsTable (routes_of self.now) }
     {
-        let changes = table_of(self.alloc, changes)?;
-        let (v4, v6) = self.edits(&changes)?;
-        Ok(operations(self.alloc, v4.as_slice(), v6.as_slice())?)
+        let alloc = self.alloc;
+        let (v4, v6) = self.edits(changes)?;
+        Ok(operations(alloc, v4.as_slice(), v6.as_slice())?)
     }
 
-    /// The fewest edits of each family that give the addresses their hops after the changes.
-    fn edits(&self, changes: &HopTable) -> Result<(Vec<Edit>, Vec<Edit>), AllocError>
+    /// The fewest edits of each family that give the addresses their hops after the changes. Only several changes become a table.
+    fn edits(&self, changes: &[(IpNet, Hop)]) -> Result<(Vec<Edit>, Vec<Edit>), Refused>
+        ensures edits { IfOk result (λ es. AreEditsFor (routes_for changes.now) (routes_of self.now) es.0.items es.1.items) }
+        ensures memory { IfErr result (λ e. e ≡ Memory) }
+    {
+        match changes {
+            [(net, hop)] => Ok(self.edits_of_change(net, *hop)?),
+            _ => {
+                let changes = table_of(self.alloc, changes)?;
+                Ok(self.edits_of_table(&changes)?)
+            }
+        }
+    }
+
+    /// The fewest edits of each family that one change needs.
+    fn edits_of_change(&self, net: &IpNet, hop: Hop) -> Result<(Vec<Edit>, Vec<Edit>), AllocError>
+        ensures { IfOk result (λ es. AreEditsFor (routes_for ((net.now, hop) ∷ [])) (routes_of self.now) es.0.items es.1.items) }
+    {
+        match cleared(net) {
+            IpNet::V4(net) => {
+                let v4 = edits_of_one(self.alloc, &self.v4, net, hop)?;
+                Ok((v4, Vec::new(self.alloc)))
+            }
+            IpNet::V6(net) => {
+                let v6 = edits_of_one(self.alloc, &self.v6, net, hop)?;
+                Ok((Vec::new(self.alloc), v6))
+            }
+        }
+    }
+
+    /// The fewest edits of each family that a table of changes needs.
+    fn edits_of_table(&self, changes: &HopTable) -> Result<(Vec<Edit>, Vec<Edit>), AllocError>
         ensures { IfOk result (λ es. MakeBoth (routes_of changes.now) (routes_of self.now) es.0.items es.1.items) }
     {
         let v4 = edits_of(self.alloc, &self.v4, &changes.v4)?;

@@ -1,4 +1,4 @@
-use Rattle.std.proofs.Common.{sym, subst}
+use Rattle.std.proofs.Common.{refl, sym, subst}
 use Rattle.ipnet_addr.specs.Addresses.{Ipv4, Ipv6, width}
 use Rattle.nearest_table.specs.Changed.{MakeNearest}
 use Rattle.route_laws.specs.LeastTables.{routes_for}
@@ -9,17 +9,15 @@ use Rattle.route_table.proofs.FewestUpdates.{are_updates}
 use Rattle.route_table.proofs.Sides.{seen_table}
 use Rattle.route_table.proofs.updates.HopTable.updates.Goals as goal
 
-pub returns-in_err-changes-clause-table : goal.returns-in_err-changes-clause-table
-returns-in_err-changes-clause-table c = seen_table c.self.inside.v4 c.self.inside.v6 c.args.self.now c.self.invariant c.self.view_is
-
 pub returns-in_err-v4-clause-table : goal.returns-in_err-v4-clause-table
 returns-in_err-v4-clause-table c = seen_table c.self.inside.v4 c.self.inside.v6 c.args.self.now c.self.invariant c.self.view_is
 
 pub returns-clause-updates : goal.returns-clause-updates
 returns-clause-updates c =
-    let both = c.in_ok-v4.ensures in
+    let edits = c.in_ok-v4.ensures.edits in
+    let both = edits.both in
     let made = c.in_ok-operations.ensures in
     subst (AreUpdates (routes_of c.args.self.now) (routes_for c.args.changes.now)) (sym made.operations)
-    (are_updates (routes_for c.args.changes.now) c.as_slice.result.now c.as_slice-2.result.now both.installed both.changed c.in_ok-changes.ensures.changes c.in_ok-changes.ensures.routes made.ipv4_hops made.ipv6_hops
+    (are_updates (routes_for c.args.changes.now) c.as_slice.result.now c.as_slice-2.result.now both.installed both.changed edits.changes refl made.ipv4_hops made.ipv6_hops
     (subst (MakeNearest (width Ipv4) (entries_of both.changed_v4) (entries_of both.installed_v4)) (sym c.as_slice.ensures.value) both.ipv4)
     (subst (MakeNearest (width Ipv6) (entries_of both.changed_v6) (entries_of both.installed_v6)) (sym c.as_slice-2.ensures.value) both.ipv6))
