@@ -10,7 +10,6 @@ use crate::session::Session;
 use crate::shown::{Addr6, ip4, ip6, net4, net6, shown_match, shown_number};
 use hop_index::HopIndex;
 use route_table::RouteTable;
-use std::alloc::Global;
 
 /// A table or an index, which returns the hop of an address as one number.
 pub(crate) trait Hops<A> {
@@ -93,16 +92,11 @@ fn tell_hop<A, T: Hops<A>>(told: &T, addr: A, hop: &mut u64) -> u32
 ///
 /// Returns 0. Fails with 3 if the handle is closed; then `hops` is unchanged.
 #[unsafe(no_mangle)]
-pub extern "C" fn routes_get4_many(
-    alloc: Global,
-    handle: &mut Handle,
-    addrs: &[u32],
-    hops: &mut [u64],
-) -> u32
+pub extern "C" fn routes_get4_many(handle: &mut Handle, addrs: &[u32], hops: &mut [u64]) -> u32
     requires { IsHandle handle.old }
     ensures { Answers session_of handle.old handle.new (λ s. hop4_at s.table) addrs.now result hops.old hops.new }
 {
-    handle.on_slice(alloc, hops, 3, |session: &mut Session, hops| {
+    handle.on_slice(hops, 3, |session: &mut Session, hops| {
         fill(&session.table, addrs, hops)
     })
 }
@@ -111,16 +105,11 @@ pub extern "C" fn routes_get4_many(
 ///
 /// Returns 0. Fails with 3 if the handle is closed; then `hops` is unchanged.
 #[unsafe(no_mangle)]
-pub extern "C" fn routes_get6_many(
-    alloc: Global,
-    handle: &mut Handle,
-    addrs: &[Addr6],
-    hops: &mut [u64],
-) -> u32
+pub extern "C" fn routes_get6_many(handle: &mut Handle, addrs: &[Addr6], hops: &mut [u64]) -> u32
     requires { IsHandle handle.old }
     ensures { Answers session_of handle.old handle.new (λ s. hop6_at s.table) addrs.now result hops.old hops.new }
 {
-    handle.on_slice(alloc, hops, 3, |session: &mut Session, hops| {
+    handle.on_slice(hops, 3, |session: &mut Session, hops| {
         fill(&session.table, addrs, hops)
     })
 }
@@ -129,16 +118,11 @@ pub extern "C" fn routes_get6_many(
 ///
 /// Returns 0 and sets `hop`. Fails with 3 if the handle is closed; then `hop` is unchanged.
 #[unsafe(no_mangle)]
-pub extern "C" fn routes_index_hop4(
-    alloc: Global,
-    index: &mut Handle,
-    addr: u32,
-    hop: &mut u64,
-) -> u32
+pub extern "C" fn routes_index_hop4(index: &mut Handle, addr: u32, hop: &mut u64) -> u32
     requires { IsHandle index.old }
     ensures { Finds index_of index.old index.new (λ s. Some (index_hop4 (hops_in s) addr)) result hop.old hop.new }
 {
-    index.on_with(alloc, hop, 3, |session: &mut IndexSession, hop| {
+    index.on_with(hop, 3, |session: &mut IndexSession, hop| {
         tell_hop(&*session.index, addr, hop)
     })
 }
@@ -147,17 +131,11 @@ pub extern "C" fn routes_index_hop4(
 ///
 /// Returns 0 and sets `hop`. Fails with 3 if the handle is closed; then `hop` is unchanged.
 #[unsafe(no_mangle)]
-pub extern "C" fn routes_index_hop6(
-    alloc: Global,
-    index: &mut Handle,
-    high: u64,
-    low: u64,
-    hop: &mut u64,
-) -> u32
+pub extern "C" fn routes_index_hop6(index: &mut Handle, high: u64, low: u64, hop: &mut u64) -> u32
     requires { IsHandle index.old }
     ensures { Finds index_of index.old index.new (λ s. Some (index_hop6 (hops_in s) (record { high = high; low = low }))) result hop.old hop.new }
 {
-    index.on_with(alloc, hop, 3, |session: &mut IndexSession, hop| {
+    index.on_with(hop, 3, |session: &mut IndexSession, hop| {
         tell_hop(&*session.index, Addr6 { high, low }, hop)
     })
 }
@@ -167,16 +145,11 @@ pub extern "C" fn routes_index_hop6(
 ///
 /// Returns 0. Fails with 3 if the handle is closed; then `hops` is unchanged.
 #[unsafe(no_mangle)]
-pub extern "C" fn routes_index_hop4_many(
-    alloc: Global,
-    index: &mut Handle,
-    addrs: &[u32],
-    hops: &mut [u64],
-) -> u32
+pub extern "C" fn routes_index_hop4_many(index: &mut Handle, addrs: &[u32], hops: &mut [u64]) -> u32
     requires { IsHandle index.old }
     ensures { Answers index_of index.old index.new (λ s. index_hop4 (hops_in s)) addrs.now result hops.old hops.new }
 {
-    index.on_slice(alloc, hops, 3, |session: &mut IndexSession, hops| {
+    index.on_slice(hops, 3, |session: &mut IndexSession, hops| {
         fill(&*session.index, addrs, hops)
     })
 }
@@ -186,7 +159,6 @@ pub extern "C" fn routes_index_hop4_many(
 /// Returns 0. Fails with 3 if the handle is closed; then `hops` is unchanged.
 #[unsafe(no_mangle)]
 pub extern "C" fn routes_index_hop6_many(
-    alloc: Global,
     index: &mut Handle,
     addrs: &[Addr6],
     hops: &mut [u64],
@@ -194,7 +166,7 @@ pub extern "C" fn routes_index_hop6_many(
     requires { IsHandle index.old }
     ensures { Answers index_of index.old index.new (λ s. index_hop6 (hops_in s)) addrs.now result hops.old hops.new }
 {
-    index.on_slice(alloc, hops, 3, |session: &mut IndexSession, hops| {
+    index.on_slice(hops, 3, |session: &mut IndexSession, hops| {
         fill(&*session.index, addrs, hops)
     })
 }
