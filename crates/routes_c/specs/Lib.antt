@@ -4,6 +4,7 @@ pub mod Contents
 pub mod Followers
 pub mod Handles
 pub mod Held
+pub mod InnerLent
 pub mod Lists
 pub mod Many
 pub mod Opens

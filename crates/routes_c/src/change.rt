@@ -11,31 +11,23 @@ use crate::handle::Handle;
 use crate::session::Session;
 use crate::shown::{Change, given_hop, net4, net6};
 use ipnet::IpNet;
-use std::alloc::Global;
 
 /// Adds a route of the network.
-fn add(
-    alloc: Global,
-    handle: &mut Handle,
-    net: IpNet,
-    hop: u64,
-    pref: u16,
-    change: &mut Change,
-) -> u32
+fn add(handle: &mut Handle, net: IpNet, hop: u64, pref: u16, change: &mut Change) -> u32
     requires { IsHandle handle.old }
     ensures { Changes handle.old handle.new (λ T U. Adds T U (block net) (given_hop hop) pref) result change.old change.new }
 {
-    handle.on_with(alloc, change, 3, |session: &mut Session, change| {
+    handle.on_with(change, 3, |session: &mut Session, change| {
         session.add(net, given_hop(hop), pref, change)
     })
 }
 
 /// Removes a route of the network.
-fn del(alloc: Global, handle: &mut Handle, net: &IpNet, hop: u64, change: &mut Change) -> u32
+fn del(handle: &mut Handle, net: &IpNet, hop: u64, change: &mut Change) -> u32
     requires { IsHandle handle.old }
     ensures { Changes handle.old handle.new (λ T U. Removes T U (block net.now) (given_hop hop)) result change.old change.new }
 {
-    handle.on_with(alloc, change, 3, |session: &mut Session, change| {
+    handle.on_with(change, 3, |session: &mut Session, change| {
         session.del(net, given_hop(hop), change)
     })
 }
@@ -47,7 +39,6 @@ fn del(alloc: Global, handle: &mut Handle, net: &IpNet, hop: u64, change: &mut C
 /// and 6 if the length is above 32. Then nothing changes.
 #[unsafe(no_mangle)]
 pub extern "C" fn routes_add4(
-    alloc: Global,
     handle: &mut Handle,
     addr: u32,
     len: u8,
@@ -59,7 +50,7 @@ pub extern "C" fn routes_add4(
     ensures { ChangesAt 32 len handle.old handle.new (λ T U. Adds T U (block_of Ipv4 (record { number = addr; len = len })) (given_hop hop) pref) result change.old change.new }
 {
     match net4(addr, len) {
-        Some(net) => add(alloc, handle, net, hop, pref, change),
+        Some(net) => add(handle, net, hop, pref, change),
         None => 6,
     }
 }
@@ -70,7 +61,6 @@ pub extern "C" fn routes_add4(
 /// and 6 if the length is above 128. Then nothing changes.
 #[unsafe(no_mangle)]
 pub extern "C" fn routes_add6(
-    alloc: Global,
     handle: &mut Handle,
     high: u64,
     low: u64,
@@ -83,7 +73,7 @@ pub extern "C" fn routes_add6(
     ensures { ChangesAt 128 len handle.old handle.new (λ T U. Adds T U (block_of Ipv6 (record { number = high * 2 ^ 64 + low; len = len })) (given_hop hop) pref) result change.old change.new }
 {
     match net6(high, low, len) {
-        Some(net) => add(alloc, handle, net, hop, pref, change),
+        Some(net) => add(handle, net, hop, pref, change),
         None => 6,
     }
 }
@@ -94,7 +84,6 @@ pub extern "C" fn routes_add6(
 /// Then nothing changes.
 #[unsafe(no_mangle)]
 pub extern "C" fn routes_del4(
-    alloc: Global,
     handle: &mut Handle,
     addr: u32,
     len: u8,
@@ -105,7 +94,7 @@ pub extern "C" fn routes_del4(
     ensures { ChangesAt 32 len handle.old handle.new (λ T U. Removes T U (block_of Ipv4 (record { number = addr; len = len })) (given_hop hop)) result change.old change.new }
 {
     match net4(addr, len) {
-        Some(net) => del(alloc, handle, &net, hop, change),
+        Some(net) => del(handle, &net, hop, change),
         None => 6,
     }
 }
@@ -116,7 +105,6 @@ pub extern "C" fn routes_del4(
 /// Then nothing changes.
 #[unsafe(no_mangle)]
 pub extern "C" fn routes_del6(
-    alloc: Global,
     handle: &mut Handle,
     high: u64,
     low: u64,
@@ -128,7 +116,7 @@ pub extern "C" fn routes_del6(
     ensures { ChangesAt 128 len handle.old handle.new (λ T U. Removes T U (block_of Ipv6 (record { number = high * 2 ^ 64 + low; len = len })) (given_hop hop)) result change.old change.new }
 {
     match net6(high, low, len) {
-        Some(net) => del(alloc, handle, &net, hop, change),
+        Some(net) => del(handle, &net, hop, change),
         None => 6,
     }
 }

@@ -16,11 +16,11 @@ use std::alloc::Global;
 /// Returns 0. Fails with 2 if an allocation for a change fails, 3 if the handle is closed, and 7 if the text isn't a reply line. After a
 /// failure with 2 or 7, which are faults, each later call fails with 8.
 #[unsafe(no_mangle)]
-pub extern "C" fn routes_follower_line(alloc: Global, follower: &mut Handle, line: &[u8]) -> u32
+pub extern "C" fn routes_follower_line(follower: &mut Handle, line: &[u8]) -> u32
     requires { IsHandle follower.old }
     ensures { GoesOn follower_of follower.old follower.new (result ≡ 3) (λ s t. Follows s t line.now result) }
 {
-    follower.on(alloc, 3, |session: &mut FollowerSession| session.line(line))
+    follower.on(3, |session: &mut FollowerSession| session.line(line))
 }
 
 /// Makes the flat list of the hops, which `routes_follower_piece_at` and `routes_follower_read_pieces` read.
@@ -31,9 +31,7 @@ pub extern "C" fn routes_follower_flat(alloc: Global, follower: &mut Handle) -> 
     requires { IsHandle follower.old }
     ensures { GoesOn follower_of follower.old follower.new (result ≡ 3) (λ s t. FollowerFlattens s t result) }
 {
-    follower.on(alloc, 3, |session: &mut FollowerSession| {
-        session.flat(alloc)
-    })
+    follower.on(3, |session: &mut FollowerSession| { session.flat(alloc) })
 }
 
 /// Reads the piece at an index of the list that was made last.
@@ -41,7 +39,6 @@ pub extern "C" fn routes_follower_flat(alloc: Global, follower: &mut Handle) -> 
 /// Returns 0 and sets `piece`. Fails with 1 past the end of the list, and 3 if the handle is closed. Then `piece` is unchanged.
 #[unsafe(no_mangle)]
 pub extern "C" fn routes_follower_piece_at(
-    alloc: Global,
     follower: &mut Handle,
     index: usize,
     piece: &mut Piece,
@@ -49,7 +46,7 @@ pub extern "C" fn routes_follower_piece_at(
     requires { IsHandle follower.old }
     ensures { Finds follower_of follower.old follower.new (λ s. slice_get s.kept.pieces.items index) result piece.old piece.new }
 {
-    follower.on_with(alloc, piece, 3, |session: &mut FollowerSession, piece| {
+    follower.on_with(piece, 3, |session: &mut FollowerSession, piece| {
         tell_at(&session.kept.pieces, index, piece)
     })
 }
@@ -57,7 +54,6 @@ pub extern "C" fn routes_follower_piece_at(
 /// Copies the pieces of the list that was made last, as `routes_read_pieces` does.
 #[unsafe(no_mangle)]
 pub extern "C" fn routes_follower_read_pieces(
-    alloc: Global,
     follower: &mut Handle,
     from: usize,
     out: &mut [Piece],
@@ -65,17 +61,17 @@ pub extern "C" fn routes_follower_read_pieces(
     requires { IsHandle follower.old }
     ensures { Copies follower_of follower.old follower.new (λ s. s.kept.pieces.items) from result out.old out.new }
 {
-    follower.on_slice(alloc, out, 0, |session: &mut FollowerSession, out| {
+    follower.on_slice(out, 0, |session: &mut FollowerSession, out| {
         copy_from(session.kept.pieces.as_slice(), from, out)
     })
 }
 
 /// Looks up the hop of an address.
-fn get(alloc: Global, follower: &mut Handle, addr: IpAddr, hop: &mut u32) -> u32
+fn get(follower: &mut Handle, addr: IpAddr, hop: &mut u32) -> u32
     requires { IsHandle follower.old }
     ensures { TellsHopAt follower.old follower.new (address_of addr) result hop.old hop.new }
 {
-    follower.on_with(alloc, hop, 3, |session: &mut FollowerSession, hop| {
+    follower.on_with(hop, 3, |session: &mut FollowerSession, hop| {
         session.get(addr, hop)
     })
 }
@@ -85,16 +81,11 @@ fn get(alloc: Global, follower: &mut Handle, addr: IpAddr, hop: &mut u32) -> u32
 /// Returns 0 and sets `hop`. Fails with 1 if the address has no hop, 3 if the handle is closed, and 8 after a fault. Then `hop` is
 /// unchanged.
 #[unsafe(no_mangle)]
-pub extern "C" fn routes_follower_get4(
-    alloc: Global,
-    follower: &mut Handle,
-    addr: u32,
-    hop: &mut u32,
-) -> u32
+pub extern "C" fn routes_follower_get4(follower: &mut Handle, addr: u32, hop: &mut u32) -> u32
     requires { IsHandle follower.old }
     ensures { TellsHopAt follower.old follower.new (record { family = Ipv4; number = addr }) result hop.old hop.new }
 {
-    get(alloc, follower, ip4(addr), hop)
+    get(follower, ip4(addr), hop)
 }
 
 /// Looks up the hop of an IPv6 address, as `routes_follower_get4` does. Does not allocate.
@@ -103,7 +94,6 @@ pub extern "C" fn routes_follower_get4(
 /// unchanged.
 #[unsafe(no_mangle)]
 pub extern "C" fn routes_follower_get6(
-    alloc: Global,
     follower: &mut Handle,
     high: u64,
     low: u64,
@@ -112,7 +102,7 @@ pub extern "C" fn routes_follower_get6(
     requires { IsHandle follower.old }
     ensures { TellsHopAt follower.old follower.new (record { family = Ipv6; number = high * 2 ^ 64 + low }) result hop.old hop.new }
 {
-    get(alloc, follower, ip6(high, low), hop)
+    get(follower, ip6(high, low), hop)
 }
 
 /// Lists the routes of a smallest table with the same hops, ascending, with preference 100. If there are several, it is any of them.
@@ -124,9 +114,7 @@ pub extern "C" fn routes_follower_least(alloc: Global, follower: &mut Handle) ->
     requires { IsHandle follower.old }
     ensures { GoesOn follower_of follower.old follower.new (result ≡ 3) (λ s t. FollowerLists s t result) }
 {
-    follower.on(alloc, 3, |session: &mut FollowerSession| {
-        session.least(alloc)
-    })
+    follower.on(3, |session: &mut FollowerSession| { session.least(alloc) })
 }
 
 /// Reads the route at an index of the list of routes that was made last.
@@ -134,7 +122,6 @@ pub extern "C" fn routes_follower_least(alloc: Global, follower: &mut Handle) ->
 /// Returns 0 and sets `route`. Fails with 1 past the end of the list, and 3 if the handle is closed. Then `route` is unchanged.
 #[unsafe(no_mangle)]
 pub extern "C" fn routes_follower_route_at(
-    alloc: Global,
     follower: &mut Handle,
     index: usize,
     route: &mut Route,
@@ -142,7 +129,7 @@ pub extern "C" fn routes_follower_route_at(
     requires { IsHandle follower.old }
     ensures { Finds follower_of follower.old follower.new (λ s. slice_get s.kept.routes.items index) result route.old route.new }
 {
-    follower.on_with(alloc, route, 3, |session: &mut FollowerSession, route| {
+    follower.on_with(route, 3, |session: &mut FollowerSession, route| {
         tell_at(&session.kept.routes, index, route)
     })
 }
@@ -151,7 +138,6 @@ pub extern "C" fn routes_follower_route_at(
 /// handle has an empty list.
 #[unsafe(no_mangle)]
 pub extern "C" fn routes_follower_read(
-    alloc: Global,
     follower: &mut Handle,
     from: usize,
     out: &mut [Route],
@@ -159,7 +145,7 @@ pub extern "C" fn routes_follower_read(
     requires { IsHandle follower.old }
     ensures { Copies follower_of follower.old follower.new (λ s. s.kept.routes.items) from result out.old out.new }
 {
-    follower.on_slice(alloc, out, 0, |session: &mut FollowerSession, out| {
+    follower.on_slice(out, 0, |session: &mut FollowerSession, out| {
         copy_from(session.kept.routes.as_slice(), from, out)
     })
 }

@@ -56,32 +56,23 @@ impl Handle {
     }
 
     /// Calls `call` on the content of the handle. Returns `closed` if the handle is closed or its content is of another kind.
-    pub(crate) fn on<K: Kind, R: Drop, F: FnOnce(&mut K) -> R>(
-        &mut self,
-        alloc: Global,
-        closed: R,
-        call: F,
-    ) -> R
+    pub(crate) fn on<K: Kind, R: Drop, F: FnOnce(&mut K) -> R>(&mut self, closed: R, call: F) -> R
         requires handle { IsHandle self.old }
         requires call { F.IsAlwaysCallable call }
         ensures { GoesOn (λ h. of_kind K.part (content_of h)) self.old self.new (result ≡ closed) (λ s t. FnOnceReturnsAtMut F.FnOnce call s result t) }
     {
-        let Some(mut content) = self.take(alloc) else {
+        if !self.is_open {
             return closed;
-        };
-        let Some(part) = K::of(&mut content) else {
-            self.put(content);
-            return closed;
-        };
-        let answer = call(part);
-        self.put(content);
-        answer
+        }
+        match K::of(self.held.lend()) {
+            Some(part) => call(part),
+            None => closed,
+        }
     }
 
     /// `on`, for a call that also sets `told`.
     pub(crate) fn on_with<K: Kind, T, R: Drop, F: FnOnce(&mut K, &mut T) -> R>(
         &mut self,
-        alloc: Global,
         told: &mut T,
         closed: R,
         call: F,
@@ -90,22 +81,18 @@ impl Handle {
         requires call { F.IsAlwaysCallable call }
         ensures { GoesOn (λ h. of_kind K.part (content_of h)) self.old self.new ((result ≡ closed) × (told.new ≡ told.old)) (λ s t. ReturnsAtBoth F.FnOnce call s told.old result t told.new) }
     {
-        let Some(mut content) = self.take(alloc) else {
+        if !self.is_open {
             return closed;
-        };
-        let Some(part) = K::of(&mut content) else {
-            self.put(content);
-            return closed;
-        };
-        let answer = call(part, told);
-        self.put(content);
-        answer
+        }
+        match K::of(self.held.lend()) {
+            Some(part) => call(part, told),
+            None => closed,
+        }
     }
 
     /// `on`, for a call that also fills `out`.
     pub(crate) fn on_slice<K: Kind, T, R: Drop, F: FnOnce(&mut K, &mut [T]) -> R>(
         &mut self,
-        alloc: Global,
         out: &mut [T],
         closed: R,
         call: F,
@@ -114,15 +101,12 @@ impl Handle {
         requires call { F.IsAlwaysCallable call }
         ensures { GoesOn (λ h. of_kind K.part (content_of h)) self.old self.new ((result ≡ closed) × (out.new ≡ out.old)) (λ s t. ReturnsAtBoth F.FnOnce call s out.old result t out.new) }
     {
-        let Some(mut content) = self.take(alloc) else {
+        if !self.is_open {
             return closed;
-        };
-        let Some(part) = K::of(&mut content) else {
-            self.put(content);
-            return closed;
-        };
-        let answer = call(part, out);
-        self.put(content);
-        answer
+        }
+        match K::of(self.held.lend()) {
+            Some(part) => call(part, out),
+            None => closed,
+        }
     }
 }

@@ -16,7 +16,7 @@ use std::ptr::null_mut;
 #[repr(C)]
 #[derive(Drop)]
 pub struct Held {
-    at: *mut u8,
+    pub(crate) at: *mut u8,
     alloc: Global,
     pub ghost content: { Option Content } by { held_coded },
 }

@@ -14,7 +14,6 @@ use crate::shown::{Addr6, ip6, net4, net6, shown_match, shown_number};
 use hop_index::{Addressed, HopIndex};
 use ipnet::IpAddr;
 use route_table::RouteTable;
-use std::alloc::Global;
 
 /// The number of addresses whose hops are looked up in an index at once.
 const GROUP: usize = 64;
@@ -137,16 +136,11 @@ fn fill_from_index<A: Addressed>(index: &HopIndex, addrs: &[A], hops: &mut [u64]
 ///
 /// Returns 0. Fails with 3 if the handle is closed; then `hops` is unchanged.
 #[unsafe(no_mangle)]
-pub extern "C" fn routes_get4_many(
-    alloc: Global,
-    handle: &mut Handle,
-    addrs: &[u32],
-    hops: &mut [u64],
-) -> u32
+pub extern "C" fn routes_get4_many(handle: &mut Handle, addrs: &[u32], hops: &mut [u64]) -> u32
     requires { IsHandle handle.old }
     ensures { Answers session_of handle.old handle.new (λ s. hop4_at s.table) addrs.now result hops.old hops.new }
 {
-    handle.on_slice(alloc, hops, 3, |session: &mut Session, hops| {
+    handle.on_slice(hops, 3, |session: &mut Session, hops| {
         fill(&session.table, addrs, hops)
     })
 }
@@ -155,16 +149,11 @@ pub extern "C" fn routes_get4_many(
 ///
 /// Returns 0. Fails with 3 if the handle is closed; then `hops` is unchanged.
 #[unsafe(no_mangle)]
-pub extern "C" fn routes_get6_many(
-    alloc: Global,
-    handle: &mut Handle,
-    addrs: &[Addr6],
-    hops: &mut [u64],
-) -> u32
+pub extern "C" fn routes_get6_many(handle: &mut Handle, addrs: &[Addr6], hops: &mut [u64]) -> u32
     requires { IsHandle handle.old }
     ensures { Answers session_of handle.old handle.new (λ s. hop6_at s.table) addrs.now result hops.old hops.new }
 {
-    handle.on_slice(alloc, hops, 3, |session: &mut Session, hops| {
+    handle.on_slice(hops, 3, |session: &mut Session, hops| {
         fill(&session.table, addrs, hops)
     })
 }
@@ -173,16 +162,11 @@ pub extern "C" fn routes_get6_many(
 ///
 /// Returns 0 and sets `hop`. Fails with 3 if the handle is closed; then `hop` is unchanged.
 #[unsafe(no_mangle)]
-pub extern "C" fn routes_index_hop4(
-    alloc: Global,
-    index: &mut Handle,
-    addr: u32,
-    hop: &mut u64,
-) -> u32
+pub extern "C" fn routes_index_hop4(index: &mut Handle, addr: u32, hop: &mut u64) -> u32
     requires { IsHandle index.old }
     ensures { Finds index_of index.old index.new (λ s. Some (index_hop4 (hops_in s) addr)) result hop.old hop.new }
 {
-    index.on_with(alloc, hop, 3, |session: &mut IndexSession, hop| {
+    index.on_with(hop, 3, |session: &mut IndexSession, hop| {
         tell_hop(&*session.index, addr, hop)
     })
 }
@@ -191,17 +175,11 @@ pub extern "C" fn routes_index_hop4(
 ///
 /// Returns 0 and sets `hop`. Fails with 3 if the handle is closed; then `hop` is unchanged.
 #[unsafe(no_mangle)]
-pub extern "C" fn routes_index_hop6(
-    alloc: Global,
-    index: &mut Handle,
-    high: u64,
-    low: u64,
-    hop: &mut u64,
-) -> u32
+pub extern "C" fn routes_index_hop6(index: &mut Handle, high: u64, low: u64, hop: &mut u64) -> u32
     requires { IsHandle index.old }
     ensures { Finds index_of index.old index.new (λ s. Some (index_hop6 (hops_in s) (record { high = high; low = low }))) result hop.old hop.new }
 {
-    index.on_with(alloc, hop, 3, |session: &mut IndexSession, hop| {
+    index.on_with(hop, 3, |session: &mut IndexSession, hop| {
         tell_hop(&*session.index, Addr6 { high, low }, hop)
     })
 }
@@ -211,16 +189,11 @@ pub extern "C" fn routes_index_hop6(
 ///
 /// Returns 0. Fails with 3 if the handle is closed; then `hops` is unchanged.
 #[unsafe(no_mangle)]
-pub extern "C" fn routes_index_hop4_many(
-    alloc: Global,
-    index: &mut Handle,
-    addrs: &[u32],
-    hops: &mut [u64],
-) -> u32
+pub extern "C" fn routes_index_hop4_many(index: &mut Handle, addrs: &[u32], hops: &mut [u64]) -> u32
     requires { IsHandle index.old }
     ensures { Answers index_of index.old index.new (λ s. index_hop4 (hops_in s)) addrs.now result hops.old hops.new }
 {
-    index.on_slice(alloc, hops, 3, |session: &mut IndexSession, hops| {
+    index.on_slice(hops, 3, |session: &mut IndexSession, hops| {
         fill_from_index(&*session.index, addrs, hops)
     })
 }
@@ -230,7 +203,6 @@ pub extern "C" fn routes_index_hop4_many(
 /// Returns 0. Fails with 3 if the handle is closed; then `hops` is unchanged.
 #[unsafe(no_mangle)]
 pub extern "C" fn routes_index_hop6_many(
-    alloc: Global,
     index: &mut Handle,
     addrs: &[Addr6],
     hops: &mut [u64],
@@ -238,7 +210,7 @@ pub extern "C" fn routes_index_hop6_many(
     requires { IsHandle index.old }
     ensures { Answers index_of index.old index.new (λ s. index_hop6 (hops_in s)) addrs.now result hops.old hops.new }
 {
-    index.on_slice(alloc, hops, 3, |session: &mut IndexSession, hops| {
+    index.on_slice(hops, 3, |session: &mut IndexSession, hops| {
         fill_from_index(&*session.index, addrs, hops)
     })
 }

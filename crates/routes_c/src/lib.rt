@@ -16,6 +16,7 @@ mod held;
 pub mod hops;
 pub mod index_session;
 mod kept;
+mod lent;
 pub mod lines;
 pub mod lists;
 mod loose;

@@ -17,22 +17,17 @@ pub extern "C" fn routes_line(alloc: Global, handle: &mut Handle, line: &[u8]) -
     requires { IsHandle handle.old }
     ensures { GoesOn session_of handle.old handle.new (result ≡ 3) (λ s t. Answered s t line.now result) }
 {
-    handle.on(alloc, 3, |session: &mut Session| session.line(alloc, line))
+    handle.on(3, |session: &mut Session| session.line(alloc, line))
 }
 
 /// Copies the stored reply, from a place on, as far as there is room. Returns the number of bytes copied. A closed handle has an empty
 /// reply.
 #[unsafe(no_mangle)]
-pub extern "C" fn routes_reply(
-    alloc: Global,
-    handle: &mut Handle,
-    from: usize,
-    out: &mut [u8],
-) -> usize
+pub extern "C" fn routes_reply(handle: &mut Handle, from: usize, out: &mut [u8]) -> usize
     requires { IsHandle handle.old }
     ensures { Copies session_of handle.old handle.new (λ s. s.reply.items) from result out.old out.new }
 {
-    handle.on_slice(alloc, out, 0, |session: &mut Session, out| {
+    handle.on_slice(out, 0, |session: &mut Session, out| {
         copy_from(session.reply.as_slice(), from, out)
     })
 }

@@ -26,23 +26,18 @@ pub extern "C" fn routes_flat(alloc: Global, handle: &mut Handle) -> u32
     requires { IsHandle handle.old }
     ensures { GoesOn session_of handle.old handle.new (result ≡ 3) (λ s t. Flattens s t result) }
 {
-    handle.on(alloc, 3, |session: &mut Session| session.flat(alloc))
+    handle.on(3, |session: &mut Session| session.flat(alloc))
 }
 
 /// Reads the piece at an index of the list that was made last.
 ///
 /// Returns 0 and sets `piece`. Fails with 1 past the end of the list, and 3 if the handle is closed. Then `piece` is unchanged.
 #[unsafe(no_mangle)]
-pub extern "C" fn routes_piece_at(
-    alloc: Global,
-    handle: &mut Handle,
-    index: usize,
-    piece: &mut Piece,
-) -> u32
+pub extern "C" fn routes_piece_at(handle: &mut Handle, index: usize, piece: &mut Piece) -> u32
     requires { IsHandle handle.old }
     ensures { Finds session_of handle.old handle.new (λ s. slice_get s.kept.pieces.items index) result piece.old piece.new }
 {
-    handle.on_with(alloc, piece, 3, |session: &mut Session, piece| {
+    handle.on_with(piece, 3, |session: &mut Session, piece| {
         tell_at(&session.kept.pieces, index, piece)
     })
 }
@@ -50,16 +45,11 @@ pub extern "C" fn routes_piece_at(
 /// Copies the pieces of the list that was made last, from an index on, as far as there is room. Returns the number of pieces copied.
 /// A closed handle has an empty list.
 #[unsafe(no_mangle)]
-pub extern "C" fn routes_read_pieces(
-    alloc: Global,
-    handle: &mut Handle,
-    from: usize,
-    out: &mut [Piece],
-) -> usize
+pub extern "C" fn routes_read_pieces(handle: &mut Handle, from: usize, out: &mut [Piece]) -> usize
     requires { IsHandle handle.old }
     ensures { Copies session_of handle.old handle.new (λ s. s.kept.pieces.items) from result out.old out.new }
 {
-    handle.on_slice(alloc, out, 0, |session: &mut Session, out| {
+    handle.on_slice(out, 0, |session: &mut Session, out| {
         copy_from(session.kept.pieces.as_slice(), from, out)
     })
 }
@@ -69,7 +59,7 @@ fn list(alloc: Global, handle: &mut Handle, asked: Asked) -> u32
     requires { IsHandle handle.old }
     ensures { ListsOf handle.old handle.new (AreAsked asked) result }
 {
-    handle.on(alloc, 3, |session: &mut Session| session.list(alloc, asked))
+    handle.on(3, |session: &mut Session| session.list(alloc, asked))
 }
 
 /// Lists the best routes of the stored networks inside this one, itself included, ascending. `routes_route_at` and `routes_read` read the
@@ -331,16 +321,11 @@ pub extern "C" fn routes_least(alloc: Global, handle: &mut Handle) -> u32
 ///
 /// Returns 0 and sets `route`. Fails with 1 past the end of the list, and 3 if the handle is closed. Then `route` is unchanged.
 #[unsafe(no_mangle)]
-pub extern "C" fn routes_route_at(
-    alloc: Global,
-    handle: &mut Handle,
-    index: usize,
-    route: &mut Route,
-) -> u32
+pub extern "C" fn routes_route_at(handle: &mut Handle, index: usize, route: &mut Route) -> u32
     requires { IsHandle handle.old }
     ensures { Finds session_of handle.old handle.new (λ s. slice_get s.kept.routes.items index) result route.old route.new }
 {
-    handle.on_with(alloc, route, 3, |session: &mut Session, route| {
+    handle.on_with(route, 3, |session: &mut Session, route| {
         tell_at(&session.kept.routes, index, route)
     })
 }
@@ -348,16 +333,11 @@ pub extern "C" fn routes_route_at(
 /// Copies the list of routes that was made last, from an index on, as far as there is room. Returns the number of routes copied. A closed
 /// handle has an empty list.
 #[unsafe(no_mangle)]
-pub extern "C" fn routes_read(
-    alloc: Global,
-    handle: &mut Handle,
-    from: usize,
-    out: &mut [Route],
-) -> usize
+pub extern "C" fn routes_read(handle: &mut Handle, from: usize, out: &mut [Route]) -> usize
     requires { IsHandle handle.old }
     ensures { Copies session_of handle.old handle.new (λ s. s.kept.routes.items) from result out.old out.new }
 {
-    handle.on_slice(alloc, out, 0, |session: &mut Session, out| {
+    handle.on_slice(out, 0, |session: &mut Session, out| {
         copy_from(session.kept.routes.as_slice(), from, out)
     })
 }

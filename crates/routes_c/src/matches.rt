@@ -10,14 +10,13 @@ use crate::handle::Handle;
 use crate::session::Session;
 use crate::shown::{Route, net4, net6};
 use ipnet::IpNet;
-use std::alloc::Global;
 
 /// Looks up the longest match of a network.
-fn get(alloc: Global, handle: &mut Handle, net: &IpNet, route: &mut Route) -> u32
+fn get(handle: &mut Handle, net: &IpNet, route: &mut Route) -> u32
     requires { IsHandle handle.old }
     ensures { Finds session_of handle.old handle.new (λ s. found_at s.table (block net.now)) result route.old route.new }
 {
-    handle.on_with(alloc, route, 3, |session: &mut Session, route| {
+    handle.on_with(route, 3, |session: &mut Session, route| {
         session.get(net, route)
     })
 }
@@ -27,17 +26,12 @@ fn get(alloc: Global, handle: &mut Handle, net: &IpNet, route: &mut Route) -> u3
 /// Returns 0 and sets `route`. Fails with 1 if no stored network contains the address, and 3 if the handle is closed. Then `route` is
 /// unchanged.
 #[unsafe(no_mangle)]
-pub extern "C" fn routes_get4(
-    alloc: Global,
-    handle: &mut Handle,
-    addr: u32,
-    route: &mut Route,
-) -> u32
+pub extern "C" fn routes_get4(handle: &mut Handle, addr: u32, route: &mut Route) -> u32
     requires { IsHandle handle.old }
     ensures { Finds session_of handle.old handle.new (λ s. found_at s.table (block_of Ipv4 (record { number = addr; len = 32 }))) result route.old route.new }
 {
     match net4(addr, 32) {
-        Some(net) => get(alloc, handle, &net, route),
+        Some(net) => get(handle, &net, route),
         None => 1,
     }
 }
@@ -47,18 +41,12 @@ pub extern "C" fn routes_get4(
 /// Returns 0 and sets `route`. Fails with 1 if no stored network contains the address, and 3 if the handle is closed. Then `route` is
 /// unchanged.
 #[unsafe(no_mangle)]
-pub extern "C" fn routes_get6(
-    alloc: Global,
-    handle: &mut Handle,
-    high: u64,
-    low: u64,
-    route: &mut Route,
-) -> u32
+pub extern "C" fn routes_get6(handle: &mut Handle, high: u64, low: u64, route: &mut Route) -> u32
     requires { IsHandle handle.old }
     ensures { Finds session_of handle.old handle.new (λ s. found_at s.table (block_of Ipv6 (record { number = high * 2 ^ 64 + low; len = 128 }))) result route.old route.new }
 {
     match net6(high, low, 128) {
-        Some(net) => get(alloc, handle, &net, route),
+        Some(net) => get(handle, &net, route),
         None => 1,
     }
 }

@@ -82,7 +82,7 @@ pub extern "C" fn routes_index_open(alloc: Global, index: &mut Handle, table: &m
     if index.is_open {
         return 4;
     }
-    match table.on(alloc, Err(3), |session: &mut Session| session.index(alloc)) {
+    match table.on(Err(3), |session: &mut Session| session.index(alloc)) {
         Ok(made) => index.open(alloc, Content::Index(made)),
         Err(code) => code,
     }
@@ -107,11 +107,7 @@ pub extern "C" fn routes_follower_index(
     if index.is_open {
         return 4;
     }
-    match follower.on(
-        alloc,
-        Err(3),
-        |session: &mut FollowerSession| session.index(alloc),
-    ) {
+    match follower.on(Err(3), |session: &mut FollowerSession| session.index(alloc)) {
         Ok(made) => index.open(alloc, Content::Index(made)),
         Err(code) => code,
     }
@@ -133,7 +129,7 @@ pub extern "C" fn routes_index_share(alloc: Global, index: &mut Handle, from: &m
     if index.is_open {
         return 4;
     }
-    match from.on(alloc, Err(3), |session: &mut IndexSession| session.share()) {
+    match from.on(Err(3), |session: &mut IndexSession| session.share()) {
         Ok(made) => index.open(alloc, Content::Index(made)),
         Err(code) => code,
     }

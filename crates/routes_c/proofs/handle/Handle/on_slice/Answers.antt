@@ -1,9 +1,8 @@
-use Rattle.std.proofs.Common.{refl, sym}
+use Rattle.std.proofs.Common.{◌∙◌, ap, is_some, refl}
 use Rattle.routes_c.proofs.handle.Handle.on_slice.Goals as goal
 
-pub returns : goal.returns
-returns g c = (
-  c.put-2.ensures.handle,
-  rw (c.in-Some.ensures.some, c.put-2.ensures.open, sym c.deref_mut.ensures.value, c.in-Some-of.ensures.value, g.met.K.Kind.comes_back c.call-answer.new.arg2)
-      (record { first = _; second = _; first-shows = refl; second-shows = refl; first-left = _; second-left = _; met = c.call-answer.ensures; first-leaves = refl; second-leaves = refl }),
+pub returns-in-Some : goal.returns-in-Some
+returns-in-Some g c = (
+  c.requires.handle ∙ ap is_some c.lend.ensures.value,
+  rw (c.lend.ensures.value, c.in-Some.ensures.value, g.met.K.Kind.comes_back c.call.new.arg2) (record { first = _; second = _; first-shows = refl; second-shows = refl; first-left = _; second-left = _; met = c.call.ensures; first-leaves = refl; second-leaves = refl }),
 )
