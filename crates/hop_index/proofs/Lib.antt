@@ -7,3 +7,4 @@ pub mod Pieces
 pub mod Joins
 pub mod Indexes
 pub mod Groups
+pub mod Divisions

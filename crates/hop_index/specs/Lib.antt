@@ -3,3 +3,4 @@ pub mod Ranges
 pub mod InnerRanges
 pub mod Indexes
 pub mod InnerIndexes
+pub mod InnerNodes

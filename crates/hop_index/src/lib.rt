@@ -9,5 +9,6 @@ mod batches;
 mod cells;
 mod index;
 mod lookups;
+mod nodes;
 mod ranges;
 mod stored;

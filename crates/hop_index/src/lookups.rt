@@ -4,6 +4,7 @@ ghost use Rattle.hop_index.specs.Ranges.{hop_in};
 ghost use Rattle.hop_index.specs.InnerRanges.{AreAscending, ArePadded, EndsBelow, EndsFrom};
 
 use crate::cells::{cell_at, cells_of, tops_of};
+use crate::nodes::Nodes;
 use crate::ranges::Ranges;
 use crate::stored::Stored;
 use std::alloc::{AllocError, Global};
@@ -64,26 +65,27 @@ fn ended<N: Stored>(ranges: &Ranges<N>, low: u32, high: u32, number: N) -> usize
     }
 }
 
-/// The hops of the addresses of a family: ranges, and cells that leave few of them for an address.
+/// The hops of the addresses of a family: ranges, and cells and nodes that leave few of them for an address.
 ///
 /// Contracts see the ranges.
 #[derive(Drop)]
 pub(crate) struct Lookups<N: Stored> {
     tops: Vec<u32>,
     cells: Vec<u32>,
-    ranges: Ranges<N>,
+    nodes: Nodes<N>,
 }
 
 impl<N: Stored> Model for Lookups<N> {
-    ghost use Rattle.std.specs.Prelude.{◌≡◌, ◌+◌, ◌^◌, List, length, slice_index};
+    ghost use Rattle.std.specs.Prelude.{◌≡◌, ℕ, ◌+◌, ◌^◌, ◌<◌, List, length, slice_index};
     ghost use Rattle.hop_index.specs.Ranges.{HopRange};
-    ghost use Rattle.hop_index.specs.InnerRanges.{AreCells, ArePadded, AreTops, cell_of};
+    ghost use Rattle.hop_index.specs.InnerNodes.{AreNodes, Leads};
+    ghost use Rattle.hop_index.specs.InnerRanges.{ArePadded, AreTops, cell_of};
 
     ghost Value = { List HopRange };
 
-    ghost view = { λ a. a.ranges };
+    ghost view = { λ a. a.nodes.ranges };
 
-    ghost invariant = { λ a. AreTops a.tops.items × AreCells (λ x. cell_of a.tops.items (N.head_of x)) a.ranges a.cells.items × (length a.cells.items ≡ slice_index a.tops.items 65536 + 1) × ArePadded a.ranges (2 ^ N.width) };
+    ghost invariant = { λ a. AreTops a.tops.items × (length a.cells.items ≡ slice_index a.tops.items 65536 + 1) × ArePadded a.nodes.ranges (2 ^ N.width) × AreNodes a.nodes.ranges (2 ^ N.width) a.nodes.nodes.items a.nodes.cells.items × ((x : ℕ) → x < 2 ^ N.width → Leads a.nodes.nodes.items a.nodes.ranges x (slice_index a.cells.items (cell_of a.tops.items (N.head_of x)))) };
 }
 
 impl<N: Stored> Lookups<N> {
@@ -98,12 +100,10 @@ impl<N: Stored> Lookups<N> {
     {
         ranges.pad()?;
         let tops = tops_of(alloc, &ranges)?;
-        let cells = cells_of(alloc, &ranges, &tops)?;
-        Ok(Lookups {
-            tops,
-            cells,
-            ranges,
-        })
+        let mut cells = cells_of(alloc, &ranges, &tops)?;
+        let mut nodes = Nodes::new(alloc, ranges);
+        nodes.divide(alloc, &mut cells)?;
+        Ok(Lookups { tops, cells, nodes })
     }
 
     /// Bounds of the number of ranges that end below the number.
@@ -114,7 +114,7 @@ impl<N: Stored> Lookups<N> {
         ensures number { N.number number < 2 ^ N.width }
     {
         let cell = cell_at(&self.tops, number.head());
-        (self.cells[cell], self.cells[cell + 1])
+        self.nodes.bounds(self.cells[cell], number)
     }
 
     /// The hop of the number, with its bounds.
@@ -125,8 +125,8 @@ impl<N: Stored> Lookups<N> {
         requires from { EndsFrom self.now (N.number number) bounds.1 }
         ensures { result ≡ hop_in self.now (N.number number) }
     {
-        let place = ended(&self.ranges, bounds.0, bounds.1, number);
-        self.ranges.hop(place)
+        let place = ended(&self.nodes.ranges, bounds.0, bounds.1, number);
+        self.nodes.ranges.hop(place)
     }
 
     /// The hop of the number.

@@ -1,5 +1,5 @@
 //! The numbers of addresses as an index stores them: in 4 bytes for IPv4, in 16 for IPv6.
-ghost use Rattle.std.specs.Prelude.{◌≡◌, ℕ, ◌+◌, ◌*◌, ◌/◌, ◌-◌, ◌^◌, ◌<◌, ◌≤◌, ◌↔◌, IsTrue};
+ghost use Rattle.std.specs.Prelude.{◌≡◌, ℕ, ◌+◌, ◌*◌, ◌/◌, ◌-◌, ◌^◌, ◌<◌, ◌≤◌, ◌↔◌, IsTrue, min};
 ghost use Rattle.hop_index.specs.InnerHeads.{halved_ascends, halved_within, shifted_ascends, shifted_within};
 
 /// The number of an address of one family: `u32` for IPv4, `Halves` for IPv6.
@@ -30,6 +30,15 @@ pub(crate) trait Stored: Copy + Drop {
     /// Returns whether the number is below the other.
     fn is_below(self, other: Self) -> bool
         ensures { IsTrue result ↔ number self < number other };
+
+    /// Returns the place of the highest bit of how much the number is above `first`, or 0.
+    fn log_above(self, first: Self) -> u32
+        ensures { result < width };
+
+    /// Returns how many steps of 2^`shift` numbers the number is above `first`, or `most` if that is less.
+    fn steps(self, first: Self, shift: u32, most: u32) -> u32
+        requires { shift < width }
+        ensures { result ≡ min most ((number self - number first) / 2 ^ shift) };
 
     /// A higher number has no lower first bits.
     ghost ascends: { (x y : ℕ) → x ≤ y → head_of x ≤ head_of y };
@@ -67,6 +76,15 @@ impl Stored for u32 {
     #[inline]
     fn is_below(self, other: u32) -> bool {
         self < other
+    }
+
+    fn log_above(self, first: u32) -> u32 {
+        self.saturating_sub(first).max(1).ilog2()
+    }
+
+    #[inline]
+    fn steps(self, first: u32, shift: u32, most: u32) -> u32 {
+        (self.saturating_sub(first) >> shift).min(most)
     }
 }
 
@@ -122,5 +140,15 @@ impl Stored for Halves {
     #[inline]
     fn is_below(self, other: Halves) -> bool {
         self.bits() < other.bits()
+    }
+
+    fn log_above(self, first: Halves) -> u32 {
+        self.bits().saturating_sub(first.bits()).max(1).ilog2()
+    }
+
+    #[inline]
+    fn steps(self, first: Halves, shift: u32, most: u32) -> u32 {
+        let steps = self.bits().saturating_sub(first.bits()) >> shift;
+        steps.min(u128::from(most)) as u32
     }
 }

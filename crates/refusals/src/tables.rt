@@ -158,7 +158,7 @@ pub fn change<T, F: FnOnce(&mut T, IpNet) -> Result<(), Refused>>(
     Ok(())
 }
 
-/// Stores the best routes of IPv4 in an empty table, and writes the mark.
+/// Stores the best routes of IPv4 in a table, and writes the mark.
 fn begin_with(rt: &HostRuntime, table: &mut HopTable, routes: &RouteTable) -> Result<(), Fault> {
     for (net, hop, _) in routes.list(&IpNet::default()) {
         store(table, net, hop)?;
@@ -233,9 +233,33 @@ fn index(rt: &HostRuntime, table: &RouteTable) -> Result<(), Fault> {
     }
 }
 
-/// An index of a table with one route for each network.
+/// Hosts with a hop each, so close together that an index needs nodes for them.
+const HOSTS: [&str; 12] = [
+    "10.1.2.8/32",
+    "10.1.2.9/32",
+    "10.1.2.10/32",
+    "10.1.2.11/32",
+    "10.1.2.12/32",
+    "10.1.2.13/32",
+    "2001:db8::1/128",
+    "2001:db8::2/128",
+    "2001:db8::3/128",
+    "2001:db8::4/128",
+    "2001:db8::5/128",
+    "2001:db8::6/128",
+];
+
+fn store_hosts(table: &mut HopTable) -> Result<(), Fault> {
+    for (place, text) in HOSTS.iter().enumerate() {
+        store(table, network(text)?, Hop::Number(place as u32))?;
+    }
+    Ok(())
+}
+
+/// An index of a table with one route for each network, some of which are close together.
 fn index_of_hops(rt: &HostRuntime, routes: &RouteTable) -> Result<(), Fault> {
     let mut table = made(HopTable::new(rt.alloc()))?;
+    store_hosts(&mut table)?;
     begin_with(rt, &mut table, routes)?;
     match ended(rt, HopIndex::of_hops(rt.alloc(), &table)) {
         Some(index) => answer_hops(rt, &index),

@@ -1,5 +1,6 @@
 //! The tests, one file for each group of calls.
 mod choices;
+mod dense_indexes;
 mod first_calls;
 mod flat_lists;
 mod hop_tables;

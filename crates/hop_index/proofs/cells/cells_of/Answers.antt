@@ -1,6 +1,6 @@
 use Rattle.std.proofs.Common.{◌≡◌, ℕ, ◌+◌, ◌^◌, ◌<◌, ◌≤◌, List, length, get_or, sym, ap, ◌∙◌, refl, arith}
 use Rattle.hop_index.specs.Ranges.{HopRange}
-use Rattle.hop_index.specs.InnerRanges.{AreCells, EndsBelow, cell_of}
+use Rattle.hop_index.specs.InnerRanges.{cell_of}
 use Rattle.hop_index.proofs.Narrowing.{cells_ascend, more_cells}
 use Rattle.hop_index.proofs.cells.cells_of.Goals as goal
 

@@ -1,4 +1,4 @@
-use Rattle.std.proofs.Common.{◌≡◌, sym, ap, ◌∙◌, arith}
+use Rattle.std.proofs.Common.{sym, ap, ◌∙◌, arith}
 use Rattle.hop_index.specs.Ranges.{HopRange}
 use Rattle.hop_index.proofs.Marks.{as_many, read}
 use Rattle.hop_index.proofs.ranges.Ranges.last.Goals as goal

@@ -1,6 +1,6 @@
-use Rattle.std.proofs.Common.{ℕ, ◌≡◌, ◌+◌, ◌-◌, ◌^◌, ◌<◌, ◌++◌, [], ◌∷◌, List, None, length, get_or, ap, ◌∙◌, subst, arith}
-use Rattle.hop_index.specs.Ranges.{HopRange, hop_in}
-use Rattle.hop_index.specs.InnerRanges.{AreAscending, EndsBelow, EndsFrom}
+use Rattle.std.proofs.Common.{ℕ, ◌≡◌, ◌+◌, ◌-◌, ◌^◌, List, None, length, ◌∙◌, arith}
+use Rattle.hop_index.specs.Ranges.{HopRange}
+use Rattle.hop_index.specs.InnerRanges.{EndsBelow, EndsFrom}
 use Rattle.hop_index.proofs.Searches.{length_push, push_ascends, push_below, push_from, push_none}
 use Rattle.hop_index.proofs.ranges.Ranges.pad.Goals as goal
 

@@ -1,6 +1,5 @@
-use Rattle.std.proofs.Common.{◌≡◌, ◌+◌, ◌-◌, ◌≤◌, ◌++◌, ℕ, List, [], ◌∷◌, Bool, true, false, Option, replicate, sym, ap, ◌∙◌, length, arith, append_assoc}
+use Rattle.std.proofs.Common.{◌≡◌, ◌-◌, ◌≤◌, ◌++◌, ℕ, List, [], ◌∷◌, Bool, true, false, Option, replicate, sym, ap, ◌∙◌, length, arith, append_assoc}
 use Rattle.std.proofs.lemmas.List.{take_all}
-use Rattle.hop_index.specs.Ranges.{HopRange}
 use Rattle.hop_index.specs.InnerRanges.{StoredRange}
 use Rattle.hop_index.proofs.Marks.{hop_unmarked, pushed, pushed_marked}
 use Rattle.hop_index.proofs.ranges.Ranges.push.Goals as goal

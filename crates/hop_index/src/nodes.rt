@@ -1,0 +1,273 @@
+//! Nodes: cells in which many ranges end, divided again.
+ghost use Rattle.std.specs.Prelude.{◌≡◌, ℕ, ◌+◌, ◌-◌, ◌^◌, ◌<◌, ◌≤◌, ◌++◌, [], ◌∷◌, IfOk, OnOk, length, slice_index, slice_index_or};
+ghost use Rattle.hop_index.specs.Ranges.{HopRange, hop_in};
+ghost use Rattle.hop_index.specs.InnerRanges.{ArePadded, EndsBelow, EndsFrom};
+ghost use Rattle.hop_index.specs.InnerNodes.{AreNodes, IsBetween, Leads, StoredNode, cell_in};
+
+use crate::ranges::Ranges;
+use crate::stored::Stored;
+use std::alloc::{AllocError, Global};
+use std::marker::Model;
+
+/// Entries from here on are nodes.
+const MARK: u32 = 1 << 31;
+
+/// The most nodes on the way to an entry.
+const LEVELS: u32 = 3;
+
+/// A cell in which more than four ranges end, divided into cells of one length.
+#[derive(Drop)]
+pub(crate) struct Node<N: Stored> {
+    before: u32,
+    after: u32,
+    first: N,
+    shift: u32,
+    last: u32,
+    place: u32,
+}
+
+impl<N: Stored> Model for Node<N> {
+    ghost use Rattle.std.specs.Prelude.{◌<◌};
+    ghost use Rattle.hop_index.specs.InnerNodes.{StoredNode};
+
+    ghost Value = { StoredNode };
+
+    ghost view = { λ n. record { before = n.before; after = n.after; first = N.number n.first; shift = n.shift; last = n.last; place = n.place } };
+
+    ghost invariant = { λ n. n.shift < N.width };
+}
+
+/// The length of the cells of a node of `count` ranges from `first` to `last`, as a power of two.
+fn shift_of<N: Stored>(first: N, last: N, count: u32) -> u32
+    requires { 0 < count }
+    ensures { result < N.width }
+{
+    let log = last.log_above(first);
+    let shift = log.saturating_sub(count.ilog2());
+    if last.steps(first, shift, count) < count {
+        shift
+    } else {
+        shift.saturating_add(1).min(log)
+    }
+}
+
+impl<N: Stored> Node<N> {
+    /// A node of the ranges from `before` to `after`, with at most `most` + 1 cells.
+    fn over(ranges: &Ranges<N>, before: u32, after: u32, most: u32) -> Node<N>
+        requires some { before < after }
+        requires within { after ≤ length ranges.now }
+        ensures before { result.before ≡ before }
+        ensures after { result.after ≡ after }
+        ensures last { result.last ≤ most }
+    {
+        let first = ranges.last(before as usize);
+        let last = ranges.last(after as usize - 1);
+        let shift = shift_of(first, last, after - before);
+        let last = last.steps(first, shift, most);
+        Node {
+            before,
+            after,
+            first,
+            shift,
+            last,
+            place: 0,
+        }
+    }
+
+    /// The node with its first cell at this place.
+    fn at(self, place: u32) -> Node<N>
+        ensures { result ≡ record { before = self.before; after = self.after; first = self.first; shift = self.shift; last = self.last; place = place } }
+    {
+        Node { place, ..self }
+    }
+
+    /// How many ranges end before the cell, and how many up to its end.
+    #[inline]
+    fn bounds(&self) -> (u32, u32)
+        ensures before { result.0 ≡ self.now.before }
+        ensures after { result.1 ≡ self.now.after }
+    {
+        (self.before, self.after)
+    }
+
+    /// The number of its cells.
+    fn count(&self) -> usize
+        ensures { result ≡ self.now.last + 1 }
+    {
+        self.last as usize + 1
+    }
+
+    /// The cell of a number among those of the node.
+    #[inline]
+    fn cell(&self, number: N) -> u32
+        ensures { result ≡ cell_in self.now (N.number number) }
+    {
+        number.steps(self.first, self.shift, self.last)
+    }
+
+    /// The place of the entry of the cell of a number.
+    #[inline]
+    fn place(&self, number: N) -> usize
+        ensures { result ≡ self.now.place + cell_in self.now (N.number number) }
+    {
+        self.place as usize + self.cell(number) as usize
+    }
+}
+
+/// Ranges, and nodes that divide cells of them.
+#[derive(Drop)]
+pub(crate) struct Nodes<N: Stored> {
+    pub(crate) ranges: Ranges<N>,
+    pub(crate) nodes: Vec<Node<N>>,
+    pub(crate) cells: Vec<u32>,
+}
+
+impl<N: Stored> Nodes<N> {
+    /// Ranges without nodes. Does not allocate.
+    pub(crate) fn new(alloc: Global, ranges: Ranges<N>) -> Nodes<N>
+        ensures ranges { result.ranges ≡ ranges }
+        ensures nodes { AreNodes ranges (2 ^ N.width) result.nodes.items result.cells.items }
+    {
+        Nodes {
+            ranges,
+            nodes: Vec::new(alloc),
+            cells: Vec::new(alloc),
+        }
+    }
+
+    /// The entry of a node that is added next.
+    fn next_entry(&self) -> Result<u32, AllocError>
+        ensures { IfOk result (λ e. e ≡ 2147483648 + length self.now.nodes.items) }
+    {
+        let next = self.nodes.len();
+        if next >= MARK as usize {
+            return Err(AllocError);
+        }
+        Ok(MARK + next as u32)
+    }
+
+    /// Adds a node with the entries of its cells. Returns its own entry.
+    fn add(&mut self, node: Node<N>, entries: &[u32]) -> Result<u32, AllocError>
+        requires nodes { AreNodes self.old.ranges (2 ^ N.width) self.old.nodes.items self.old.cells.items }
+        requires all { length entries.now ≡ node.last + 1 }
+        requires leads { (x : ℕ) → x < 2 ^ N.width → IsBetween self.old.ranges x node.before node.after → (d : StoredNode) → d.before ≡ node.before → d.after ≡ node.after → Leads (self.old.nodes.items ++ d ∷ []) self.old.ranges x (slice_index entries.now (cell_in node x)) }
+        ensures ranges { OnOk result (self.new.ranges ≡ self.old.ranges) }
+        ensures nodes { OnOk result (AreNodes self.new.ranges (2 ^ N.width) self.new.nodes.items self.new.cells.items) }
+        ensures kept { OnOk result ((x entry : ℕ) → Leads self.old.nodes.items self.old.ranges x entry → Leads self.new.nodes.items self.old.ranges x entry) }
+        ensures leads { IfOk result (λ e. (x : ℕ) → IsBetween self.old.ranges x node.before node.after → Leads self.new.nodes.items self.old.ranges x e) }
+    {
+        let Ok(place) = u32::try_from(self.cells.len()) else {
+            return Err(AllocError);
+        };
+        let entry = self.next_entry()?;
+        self.cells.extend_from_slice(entries)?;
+        self.nodes.push(node.at(place))?;
+        Ok(entry)
+    }
+
+    /// The first range from `place` on that ends in a later cell of the node, or the end of its ranges.
+    fn after_cell(&self, node: &Node<N>, mut place: u32, cell: usize) -> u32
+        requires place { place ≤ node.now.after }
+        requires within { node.now.after ≤ length self.now.ranges }
+        ensures least { place ≤ result }
+        ensures most { result ≤ node.now.after }
+        ensures inside { (k : ℕ) (d : HopRange) → place ≤ k → k < result → cell_in node.now (slice_index_or self.now.ranges k d).last ≤ cell }
+        ensures beyond { result < node.now.after → (d : HopRange) → cell < cell_in node.now (slice_index_or self.now.ranges result d).last }
+    {
+        while place < node.bounds().1
+            && node.cell(self.ranges.last(place as usize)) as usize <= cell
+        {
+            place += 1;
+        }
+        place
+    }
+
+    /// The entry of a cell in which the ranges from `before` to `after` end, with at most so many levels of nodes.
+    fn entry(
+        &mut self,
+        alloc: Global,
+        before: u32,
+        after: u32,
+        levels: u32,
+    ) -> Result<u32, AllocError>
+        requires ranges { ArePadded self.old.ranges (2 ^ N.width) }
+        requires few { length self.old.ranges < 2147483648 }
+        requires before { before ≤ length self.old.ranges }
+        requires after { after ≤ length self.old.ranges }
+        requires nodes { AreNodes self.old.ranges (2 ^ N.width) self.old.nodes.items self.old.cells.items }
+        ensures ranges { OnOk result (self.new.ranges ≡ self.old.ranges) }
+        ensures nodes { OnOk result (AreNodes self.new.ranges (2 ^ N.width) self.new.nodes.items self.new.cells.items) }
+        ensures kept { OnOk result ((x entry : ℕ) → Leads self.old.nodes.items self.old.ranges x entry → Leads self.new.nodes.items self.old.ranges x entry) }
+        ensures leads { IfOk result (λ e. (x : ℕ) → x < 2 ^ N.width → IsBetween self.old.ranges x before after → Leads self.new.nodes.items self.old.ranges x e) }
+    {
+        if after <= before + 4 {
+            return Ok(before);
+        }
+        if levels == 0 {
+            let own = self.next_entry()?;
+            let node = Node::over(&self.ranges, before, after, 0);
+            return self.add(node, &[own]);
+        }
+        let node = Node::over(&self.ranges, before, after, after - before - 1);
+        let mut entries = Vec::with_capacity(alloc, node.count())?;
+        let mut place = before;
+        for cell in 0..node.count() {
+            let next = self.after_cell(&node, place, cell);
+            entries.push(self.entry(alloc, place, next, levels - 1)?)?;
+            place = next;
+        }
+        self.add(node, entries.as_slice())
+    }
+
+    /// Makes an entry of each count of a list: how many ranges end before a cell. The last count, after all cells, stays.
+    pub(crate) fn divide(&mut self, alloc: Global, cells: &mut [u32]) -> Result<(), AllocError>
+        requires ranges { ArePadded self.old.ranges (2 ^ N.width) }
+        requires cells { (c : ℕ) → c < length cells.old → slice_index cells.old c ≤ length self.old.ranges }
+        requires nodes { AreNodes self.old.ranges (2 ^ N.width) self.old.nodes.items self.old.cells.items }
+        ensures ranges { OnOk result (self.new.ranges ≡ self.old.ranges) }
+        ensures nodes { OnOk result (AreNodes self.new.ranges (2 ^ N.width) self.new.nodes.items self.new.cells.items) }
+        ensures leads { OnOk result ((c x : ℕ) → c + 1 < length cells.old → x < 2 ^ N.width → IsBetween self.old.ranges x (slice_index cells.old c) (slice_index cells.old (c + 1)) → Leads self.new.nodes.items self.old.ranges x (slice_index cells.new c)) }
+    {
+        if self.ranges.len() >= MARK as usize {
+            return Err(AllocError);
+        }
+        for place in 1..cells.len() {
+            cells[place - 1] = self.entry(alloc, cells[place - 1], cells[place], LEVELS)?;
+        }
+        Ok(())
+    }
+
+    /// The entry that nodes lead a number to.
+    #[inline]
+    fn last_entry(&self, mut entry: u32, number: N) -> u32
+        requires nodes { AreNodes self.now.ranges (2 ^ N.width) self.now.nodes.items self.now.cells.items }
+        requires number { N.number number < 2 ^ N.width }
+        requires entry { Leads self.now.nodes.items self.now.ranges (N.number number) entry }
+        ensures { Leads self.now.nodes.items self.now.ranges (N.number number) result }
+    {
+        for _ in 0..LEVELS {
+            if entry < MARK {
+                return entry;
+            }
+            let node = &self.nodes[(entry - MARK) as usize];
+            entry = self.cells[node.place(number)];
+        }
+        entry
+    }
+
+    /// Bounds of the number of ranges that end below a number, from the entry of its cell.
+    #[inline]
+    pub(crate) fn bounds(&self, entry: u32, number: N) -> (u32, u32)
+        requires nodes { AreNodes self.now.ranges (2 ^ N.width) self.now.nodes.items self.now.cells.items }
+        requires number { N.number number < 2 ^ N.width }
+        requires entry { Leads self.now.nodes.items self.now.ranges (N.number number) entry }
+        ensures below { EndsBelow self.now.ranges (N.number number) result.0 }
+        ensures from { EndsFrom self.now.ranges (N.number number) result.1 }
+    {
+        let entry = self.last_entry(entry, number);
+        if entry < MARK {
+            return (entry, entry + 4);
+        }
+        self.nodes[(entry - MARK) as usize].bounds()
+    }
+}
