@@ -1,4 +1,4 @@
-use Rattle.std.proofs.Common.{◌≡◌, ◌+◌, ◌-◌, ◌≤◌, ℕ, length, arith}
+use Rattle.std.proofs.Common.{◌+◌, ◌≤◌, ℕ, length, arith}
 use Rattle.hop_index.specs.Indexes.{hop_of}
 use Rattle.hop_index.proofs.Groups.{one_more_group}
 use Rattle.routes_c.specs.Shown.{number_shown}
