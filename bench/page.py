@@ -92,13 +92,13 @@ class Missing(dict):
 
 def programs(results):
     """The modes on the real feed, and beside the peer."""
-    times, least, fib, beside = (results.row(title, REAL) for title in (TITLES[0], TITLES[1], TITLES[3], TITLES[2]))
+    times, least, beside = (results.row(title, REAL) for title in TITLES[:3])
     yield "programs", table(["program", "input", "CPU s", "MB", "speed, times the peer's", "memory, times the peer's"], [
         ["`routes lead`", f"{times['lines in']} commands", times["lead s"], times["lead MB"],
          f"{beside['lead']} ({beside['lead, replies together']} if the peer buffers its replies)", beside["memory of lead"]],
         ["`routes follow`", f"{times['lines out']} lines", times["follow s"], times["follow MB"], beside["follow"], beside["memory of follow"]],
         ["`routes least`", f"{times['lines out']} lines", least["least s"], least["least MB"], beside["least"], beside["memory of least"]],
-        ["`routes_fib`, a batch for each change", f"{times['lines out']} lines", fib["kept s"], fib["kept MB"], "-", "-"]])
+    ])
 
 
 def growth(results):
@@ -170,13 +170,15 @@ def maps(results):
 
 
 def headline(results):
-    """README's line."""
-    row = results.row(TITLES[0], REAL)
-    if isinstance(row, Missing):
-        raise SystemExit("bench: bench/RESULTS.md has no row of the real feed for README.md's line")
+    """README's lines."""
+    row, installer = results.row(TITLES[0], REAL), results.row(TITLES[3], REAL)
+    if isinstance(row, Missing) or isinstance(installer, Missing):
+        raise SystemExit("bench: bench/RESULTS.md has no rows of the real feed for README.md's lines")
     rate, megabytes = int(row["commands/s"].replace(",", "")), float(row["lead MB"])
+    times = float(installer["kept s"]) / float(installer["follow s"])
     return (f"On a real feed of {networks_of(results, REAL)} networks, `routes lead` replies to {round(rate, -3):,.0f} commands a second on one "
-            f"core, in {megabytes:.0f} MB.\n")
+            f"core, in {megabytes:.0f} MB.\n`routes_fib`, with a batch for each reply, takes {times:.1f} times as long as `routes follow` for the same "
+            "replies.\n")
 
 
 def marked(path, name, content, text=None):
