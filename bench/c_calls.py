@@ -42,8 +42,8 @@ from the networks, or anywhere from the block."""
 MADE = """Tables of one family each give these indexes in {made:.0f} ms together, {ratio:.3f} of the {lead:.2f} s in which `routes lead` loads
 the feed beside them, its output to a file."""
 
-TOGETHER = """{readers} threads that look up addresses in one index at the same time on {cores} processors, each by a handle of its own, make
-{v4:.1f} times as many lookups as one thread for IPv4, and {v6:.1f} times as many for IPv6, 64 in a call, by the clock."""
+TOGETHER = """{readers} threads look up addresses in one index at the same time on {cores} processors, 64 in a call, each by a handle of its own.
+By the clock they make {v4:.1f} times as many lookups as one thread for IPv4, and {v6:.1f} times as many for IPv6."""
 
 
 def adds_of(feed, family):

@@ -28,7 +28,7 @@ The synthetic feeds (`bench/feeds.py`) are the same for everyone. `load` adds th
 `walks` then makes a tenth as many `list`, `cover`, `from`, `after` and `count`. The real feed is every announced network with its origin,
 from Debian's package `libloc-database` (`bench/real_feed`). Addresses for lookups are drawn evenly from a network. For `even` the network
 is drawn evenly too; for `Zipf` by its place in a random order, the first r times as often as the one at place r. For `anywhere` each is
-drawn evenly from a block that contains all networks: all of IPv4, 2000::/3 for the IPv6 networks of the feed, or the block that is named.
+drawn evenly from a block that contains all networks. That is all of IPv4, 2000::/3 for the IPv6 networks of the feed, or the named block.
 """
 
 
