@@ -1,7 +1,10 @@
 """The edits that make wrong bodies, and the positions of the bodies in a text."""
+import functools
 import re
 import sys
+from pathlib import Path
 
+CRATES = Path(__file__).resolve().parent.parent / "crates"
 
 class Edit:
     """An edit of the files of a crate, which are in a folder with the crate's name."""
@@ -29,7 +32,9 @@ class Edit:
                 sys.exit(f"{file}: a line that is not read: {line}")
         if not self.pairs or bool(self.refused) == bool(self.proved):
             sys.exit(f"{file}: an edit has pairs of lines, and either '# refused: FUNCTION' or '# proved: FUNCTION'")
-        self.functions, self.files = {*self.refused, *self.proved}, {it[0] for it in self.pairs}
+        self.stated, self.files = {*self.refused, *self.proved}, {it[0] for it in self.pairs}
+        # (the functions of a cycle of calls are proved together, so all of them fail if one does)
+        self.functions = self.stated.union(*(it for it in cycles_of(crate).values() if it & self.stated))
 
     def put(self, texts, folder):
         """The texts with this edit applied, or None if it can't be applied together with the earlier ones."""
@@ -51,13 +56,14 @@ class Edit:
             text, last = texts[path], 0
             for name, _, end in bodies_of(text):
                 lines = range(text.count("\n", 0, last) + 1, text.count("\n", 0, end) + 2)
-                if name in self.own_names() and any(file == path and line in lines for file, line in goals):
+                if name in last_names(self.stated) and any(file == path and line in lines for file, line in goals):
                     return True
                 last = end
         return False
 
-    def own_names(self):
-        return {it.rpartition("::")[2] for it in self.functions}
+    def kept_names(self):
+        """The names of the functions whose right bodies stay in a round of this edit."""
+        return last_names(self.functions if self.is_apart else self.functions - self.stated)
 
     def strays(self, folder):
         """The error of this edit: it can't be applied, or changes more than the bodies that it names, unless it is apart. None if it has
@@ -74,7 +80,29 @@ class Edit:
             if around(text, bodies) != around(wrong, others):
                 return f"it changes more of {path} than bodies: mark it '# apart'"
             changed |= {name for (name, start, end), (_, begin, stop) in zip(bodies, others) if text[start:end] != wrong[begin:stop]}
-        return None if changed == self.own_names() else f"it changes {', '.join(sorted(changed))}, and names {', '.join(sorted(self.functions))}"
+        return None if changed == last_names(self.stated) else f"it changes {', '.join(sorted(changed))}, and names {', '.join(sorted(self.stated))}"
+
+
+def last_names(functions):
+    return {it.rpartition("::")[2] for it in functions}
+
+
+@functools.cache
+def cycles_of(crate):
+    """The functions of each cycle of calls that the attribute `cycle` names, by the folder of their proofs."""
+    files = {file: file.read_text() for file in sorted((CRATES / crate / "src").rglob("*.rt"))}
+    module = {file: [it for it in file.relative_to(CRATES / crate / "src").with_suffix("").parts if it not in ("lib", "main")] for file in files}
+    home = {it: module[file] for file, text in files.items() for it in re.findall(r"^(?:pub(?:\(crate\))? )?(?:struct|enum) (\w+)", text, re.M)}
+    cycles, folders = {}, {}
+    for file, text in files.items():
+        type = None
+        for it in re.finditer(r"^impl(?:<[^>]*>)? (\w+)|^\}()|^ *#\[cycle\((\w+)\)\]\n(?: *#.*\n)* *(?:pub(?:\(crate\))? )?fn (\w+)", text, re.M):
+            type = it[1] if it[1] or it[2] is not None else type
+            if it[3]:
+                above = home[type] if type else module[file]
+                folder = folders.setdefault(it[3], "/".join([crate, "proofs", *above, f"+{it[3]}"]))
+                cycles.setdefault(folder, set()).add("::".join([crate, *above, *([type] if type else []), it[4]]))
+    return cycles
 
 
 TOKENS = re.compile(r"//[^\n]*|/\*.*?\*/|\"(?:\\.|[^\"\\])*\"|b?'(?:\\.[^']*|[^'\\])'|\bfn\s+\w+|\w+|\s+|.", re.S)
@@ -129,15 +157,20 @@ def cut_off(crate, texts, place, named, kept):
     """The texts of this crate, whose files are below `place`, with all bodies cut off, except those that these texts change and those of
     the kept names. The proof files of the cut-off functions are deleted, except those of the named functions."""
     made, off = {}, set()
+    # (functions that are cut off call nothing, so they are in no cycle)
+    ended = "|".join(folder.rpartition("+")[2] for folder, functions in cycles_of(crate).items() if not functions & named)
     for file in (place / crate / "src").rglob("*.rt"):
         path, text = str(file.relative_to(place)), file.read_text()
         made[path], names = cut(text, texts.get(path, text), kept)
+        if ended:
+            made[path] = re.sub(rf"^ *#\[cycle\((?:{ended})\)\]$", "", made[path], flags=re.M)
         off |= names
     for file in (place / crate / "proofs").rglob("*.antt"):
         # (the folder of a function in a cycle of calls begins with +)
         *above, own = file.parent.relative_to(place / crate / "proofs").parts or [""]
         own = own.removeprefix("+")
-        if file.name in OWN_FILES and own in off and "::".join([crate, *above, own]) not in named:
+        proved = cycles_of(crate).get(str(file.parent.relative_to(place)), {"::".join([crate, *above, own])})
+        if file.name in OWN_FILES and (own in off or len(proved) > 1) and not proved & named:
             file.unlink()
     return made
 

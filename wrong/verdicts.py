@@ -19,10 +19,10 @@ REASONS = [re.compile(it) for it in (
 NAMES = re.compile(r"has no field|is not in scope|has no `|was not admitted|that can be named from here|was rejected, was not checked")
 
 
-def verdict(said):
+def verdict(said, cycles=None):
     """The functions in the output of a check, those that failed by themselves, the files with other errors, and the functions that failed
     only because a name is missing, as far as their own lines show. A function fails by itself if it leaves a goal open, or if its own
-    proof files are refused."""
+    proof files are refused. `cycles` has the functions of each cycle of calls, by the folder of their proofs."""
     lines = said.rstrip().split("\n")
     last = next((it for it in reversed(lines) if it.startswith(("logic=", "holes=", "only=", "rattle: "))), "")
     if not last.startswith(("logic=proved", "logic=not-proved", "only=")):
@@ -34,9 +34,10 @@ def verdict(said):
     odd = re.search(r"^(?!\w+/(?:src|specs|proofs)/|so far: |note: ).*\berror(?:\[|: ).*$", said, re.M)
     if odd:
         raise NotUnderstood(odd[0][:160])
-    functions, fell, nameless = set(), set(), set()
+    functions, fell, nameless, read = set(), set(), set(), set()
+    folders = {name: folder for folder, names in (cycles or {}).items() for name in names}
     for name, state in re.findall(r"^fn (\S+): (.*)$", said, re.M):
-        own = {it: errors[it] for it in errors if re.fullmatch(proof_files(name), it)}
+        own = {it: errors[it] for it in errors if re.fullmatch(proof_files(name), it) or it.rpartition("/")[0] == folders.get(name)}
         why = reasons(name, state)
         is_open = any(it.startswith("`search` did not prove ") for it in why)
         if name in functions:
@@ -44,8 +45,7 @@ def verdict(said):
         functions.add(name)
         if why is PROVED:
             continue
-        for it in own:
-            del errors[it]
+        read |= {*own}
         if is_open or own:
             fell.add(name)
         elif not why:
@@ -54,7 +54,7 @@ def verdict(said):
             nameless.add(name)
     if fell and last.startswith("logic=proved"):
         raise NotUnderstood("functions failed, and the crate is proved")
-    return functions, fell, {*errors}, nameless
+    return functions, fell, {*errors} - read, nameless
 
 
 def opened(said):
@@ -70,7 +70,8 @@ def reasons(name, state):
     # (the second line is that of a closure)
     if state in ("proved", "proved where its callers give what it asks"):
         return PROVED
-    head, *why = state.removeprefix("no proof: ").split("; ")
+    # (the check may say of which function of a cycle a reason is)
+    head, *why = re.sub(r"in `\S+`, of this cycle of calls: ", "", state.removeprefix("no proof: ")).split("; ")
     if state.startswith("no proof: "):
         why = [head, *why]
     elif head != "not proved":
@@ -87,6 +88,8 @@ def proof_files(name):
     return re.escape("/".join([crate, "proofs", *above, ""])) + r"\+?" + re.escape(own) + r"/\w+\.antt"
 
 
+IN = "in `c::m::E::b`, of this cycle of calls: "
+CYCLES = {"c/proofs/m/+k": {"c::m::D::a", "c::m::E::b"}}
 A = "fn c::a: proved\n"
 S = "fn c::a: no proof: expected answers in c/proofs/a/Answers.antt; `search` did not prove `returns`"
 # Made-up outputs, with the functions that failed and the files with other errors; None means an unknown form.
@@ -101,6 +104,9 @@ READ = [
     ("fn c::a: no proof: it calls `c::b`, which is not proved\nfn c::b: not proved\nc/proofs/b/Answers.antt:1:2: error: `x`: y\nlogic=not-proved", ["c::b"], []),
     ("fn c::a: no proof: expected `a_spec` in c/proofs/a/Proof.antt\nc/proofs/a/Proof.antt:1:2: error: `x`: y\nlogic=not-proved", ["c::a"], []),
     ("fn c::m::a: not proved\nc/proofs/m/+a/Invariants.antt:1:2: error: x\nlogic=not-proved", ["c::m::a"], []),
+    ("fn c::m::D::a: not proved\nfn c::m::E::b: not proved\nc/proofs/m/+k/Answers.antt:1:2: error: x\nlogic=not-proved", ["c::m::D::a", "c::m::E::b"], []),
+    (f"fn c::m::D::a: no proof: expected answers in c/proofs/m/+k/Answers.antt; {IN}`search` did not prove `x`\nlogic=not-proved", ["c::m::D::a"], []),
+    (f"fn c::m::D::a: not proved; {IN}it calls `c::d`, which is not proved\nlogic=not-proved", [], []),
     (A + "fn c::ab: not proved\nc/proofs/ab/Answers.antt:1:2: error: x\nlogic=not-proved", ["c::ab"], []),
     ("c/specs/A.antt:1:2: error: x\n" + A + "logic=not-proved", [], ["c/specs/A.antt"]),
     ("so far: c/proofs/a/Answers.antt:1:2: error: x\nfn c::a: not proved\nc/proofs/a/Answers.antt:1:2: error: x\nlogic=not-proved", ["c::a"], []),
@@ -122,7 +128,7 @@ def reads_wrongly():
     """The made-up outputs that `verdict` misreads."""
     for said, *want in READ:
         try:
-            _, fell, strays, _ = verdict(said)
+            _, fell, strays, _ = verdict(said, CYCLES)
             found = [sorted(fell), sorted(strays)]
         except NotUnderstood:
             found = [None]

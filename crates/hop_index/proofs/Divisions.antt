@@ -1,23 +1,20 @@
--- Nodes lead each number on to fewer ranges.
-use Rattle.std.proofs.Common.{◌≡◌, ℕ, ◌+◌, ◌-◌, ◌*◌, ◌/◌, ◌^◌, ◌<◌, ◌≤◌, ⊎_elim, List, [], ◌∷◌, ◌++◌, length, length-append, get_or, sym, subst, arith}
+-- Cells lead each number on to fewer ranges.
+use Rattle.std.proofs.Common.{◌≡◌, ℕ, ◌+◌, ◌-◌, ◌*◌, ◌/◌, ◌%◌, ◌^◌, ◌<◌, ◌≤◌, ⊎_elim, List, [], ◌∷◌, ◌++◌, Option, Some, None, length, length-append, get_or, refl, sym, subst, arith}
 use Rattle.std.proofs.lemmas.Bool.{cases_lt}
 use Rattle.std.proofs.lemmas.List.{get_or_append_left, get_or-append-add, get_or_push}
 use Rattle.std.proofs.lemmas.Nat.{le-div, pow_pos}
-use Rattle.std.proofs.Math.Nat.{div-mul-le_self}
+use Rattle.std.proofs.Math.Nat.{div-lt_iff_lt-mul, div-mul-le_self, mul-le-mul_right, mul-lt-mul_of_pos_right}
 use Rattle.hop_index.specs.Ranges.{HopRange}
-use Rattle.hop_index.specs.InnerRanges.{ArePadded}
-use Rattle.hop_index.specs.InnerNodes.{AreNodes, IsBetween, Leads, StoredNode, cell_in}
+use Rattle.hop_index.specs.InnerRanges.{ArePadded, AreTops, EndsBelow, cell_of, head_of}
+use Rattle.hop_index.specs.InnerNodes.{AreEntries, AreNodes, IsBetween, Leads, StoredNode, cell_by, cell_in}
 use Rattle.hop_index.proofs.Searches.{before_pads, fewer_from}
 
--- the cell of a higher number is no lower
-pub cell_in_ascends : (n : StoredNode) (x y : ℕ) → x ≤ y → cell_in n x ≤ cell_in n y
-cell_in_ascends n x y le =
-    let a : ℕ = x - n.first in
-    let b : ℕ = y - n.first in
-    let k : ℕ = 2 ^ n.shift in
-    let m : a / k * k ≤ a = div-mul-le_self a k in
-    let d : a / k ≤ b / k = le-div (a / k) b k (pow_pos n.shift) (omega arith) in
-    omega arith
+divided_ascends : (a b width : ℕ) → a ≤ b → a / 2 ^ width ≤ b / 2 ^ width
+divided_ascends a b width le = let m : a / 2 ^ width * 2 ^ width ≤ a = div-mul-le_self a (2 ^ width) in le-div (a / 2 ^ width) b (2 ^ width) (pow_pos width) (omega arith)
+
+-- the cell of a higher number is no lower in a node
+cell_in_ascends : (n : StoredNode) (x y : ℕ) → x ≤ y → cell_in n x ≤ cell_in n y
+cell_in_ascends n x y le = let d = divided_ascends (x - n.first) (y - n.first) n.shift (omega arith) in omega arith
 
 -- a cell with few ranges leads by their number
 pub few_lead : (nodes : List StoredNode) (rs : List HopRange) (end x before after : ℕ) → ArePadded rs end → x < end → length rs < 2147483648 → after ≤ before + 4 → IsBetween rs x before after → Leads nodes rs x before
@@ -46,69 +43,126 @@ module _ (nodes : List StoredNode) (n : StoredNode) (rs : List HopRange) where
     many = λ more d. subst (λ (m : StoredNode). IsBetween rs x m.before m.after) (sym (get_or_push nodes n d (e - 2147483648) (omega arith))) b;
   }
 
-  module _ (end : ℕ) (cells entries : List ℕ) (at : n.place ≡ length cells) (all : length entries ≡ n.last + 1)
-      (leads : (x : ℕ) → x < end → IsBetween rs x n.before n.after → Leads (nodes ++ n ∷ []) rs x (get_or entries (cell_in n x) 0)) where
-    abbrev AreLeading : StoredNode → Type 0
-    AreLeading m = (m.place + m.last < length (cells ++ entries))
-        × ((x : ℕ) → x < end → IsBetween rs x m.before m.after → Leads (nodes ++ n ∷ []) rs x (get_or (cells ++ entries) (m.place + cell_in m x) 0))
+  module _ (end : ℕ) (cells entries : List ℕ) (at : n.place ≡ length cells) (are : AreEntries (cell_in n) end (nodes ++ n ∷ []) rs n.before n.after entries) where
+    abbrev IsLeading : StoredNode → Type 0
+    IsLeading m = AreEntries (λ x. m.place + cell_in m x) end (nodes ++ n ∷ []) rs m.before m.after (cells ++ entries)
 
-    last_leads : AreLeading n
-    last_leads = (
-      (let l : length (cells ++ entries) ≡ length cells + length entries = length-append cells entries in omega arith),
-      (λ x x_in b.
+    last_leads : IsLeading n
+    last_leads = record {
+      within = λ x l. let w = are.within x l in let s : length (cells ++ entries) ≡ length cells + length entries = length-append cells entries in omega arith;
+      leads = λ x l b.
           let e : get_or (cells ++ entries) (length cells + cell_in n x) 0 ≡ get_or entries (cell_in n x) 0 = get_or-append-add cells entries (cell_in n x) 0 in
           subst (λ (p : ℕ). Leads (nodes ++ n ∷ []) rs x (get_or (cells ++ entries) (p + cell_in n x) 0)) (sym at)
-          (subst (λ (k : ℕ). Leads (nodes ++ n ∷ []) rs x k) (sym e) (leads x x_in b))),
-    )
-
-    old_leads : AreNodes rs end nodes cells → (k : ℕ) (d : StoredNode) → k < length nodes → AreLeading (get_or nodes k d)
-    old_leads h k d l =
-        let m : StoredNode = get_or nodes k d in
-        let w : m.place + m.last < length cells = h.within k d l in (
-          (let s : length (cells ++ entries) ≡ length cells + length entries = length-append cells entries in omega arith),
-          (λ x x_in b.
-              let c_in : m.place + cell_in m x < length cells = omega arith in
-              subst (λ (e : ℕ). Leads (nodes ++ n ∷ []) rs x e) (sym (get_or_append_left cells entries 0 (m.place + cell_in m x) c_in)) (leads_more x _ (h.leads k x d l x_in b))),
-        )
-
-    each_leads : AreNodes rs end nodes cells → (k : ℕ) (d : StoredNode) → k < length (nodes ++ n ∷ []) → AreLeading (get_or (nodes ++ n ∷ []) k d)
-    each_leads h k d l =
-        let s : length (nodes ++ n ∷ []) ≡ length nodes + 1 = length-append nodes (n ∷ []) in
-        ⊎_elim
-        (λ less. subst AreLeading (sym (get_or_append_left nodes (n ∷ []) d k less)) (old_leads h k d less))
-        (λ more. subst AreLeading (sym (get_or_push nodes n d k (omega arith))) last_leads)
-        (cases_lt k (length nodes))
-
-    pub one_more_node : AreNodes rs end nodes cells → AreNodes rs end (nodes ++ n ∷ []) (cells ++ entries)
-    one_more_node h = record {
-      within = λ k d l. (each_leads h k d l).0;
-      leads = λ k x d l. (each_leads h k d l).1 x;
+          (subst (λ (k : ℕ). Leads (nodes ++ n ∷ []) rs x k) (sym e) (are.leads x l b));
     }
 
--- the ranges of one cell of a node
-pub narrowed : (n : StoredNode) (rs : List HopRange) (x before after : ℕ) → IsBetween rs x n.before n.after → before ≤ length rs → after ≤ length rs
-    → ((k : ℕ) (d : HopRange) → n.before ≤ k → k < before → cell_in n (get_or rs k d).last < cell_in n x)
-    → ((k : ℕ) (d : HopRange) → after ≤ k → k < n.after → cell_in n x < cell_in n (get_or rs k d).last)
-    → IsBetween rs x before after
-narrowed n rs x before after b before_in after_in earlier later = record {
-  below = record {
-    within = before_in;
-    below = λ k d l. ⊎_elim
-        (λ less. b.below.below k d less)
-        (λ more. ⊎_elim
-        (λ is. is)
-        (λ not. let a : cell_in n x ≤ cell_in n (get_or rs k d).last = cell_in_ascends n x (get_or rs k d).last not in let e : cell_in n (get_or rs k d).last < cell_in n x = earlier k d more l in absurd (omega arith))
-        (cases_lt (get_or rs k d).last x))
-        (cases_lt k n.before);
-  };
-  from = record {
-    within = after_in;
-    from = λ k d le l. ⊎_elim
-        (λ less. ⊎_elim
-        (λ is. let a : cell_in n (get_or rs k d).last ≤ cell_in n x = cell_in_ascends n (get_or rs k d).last x (omega arith) in let e : cell_in n x < cell_in n (get_or rs k d).last = later k d le less in absurd (omega arith))
-        (λ not. not)
-        (cases_lt (get_or rs k d).last x))
-        (λ more. b.from.from k d more l)
-        (cases_lt k n.after);
-  };
-}
+    old_leads : (m : StoredNode) → AreEntries (λ x. m.place + cell_in m x) end nodes rs m.before m.after cells → IsLeading m
+    old_leads m h = record {
+      within = λ x l. let w = h.within x l in let s : length (cells ++ entries) ≡ length cells + length entries = length-append cells entries in omega arith;
+      leads = λ x l b. subst (λ (e : ℕ). Leads (nodes ++ n ∷ []) rs x e) (sym (get_or_append_left cells entries 0 (m.place + cell_in m x) (h.within x l))) (leads_more x _ (h.leads x l b));
+    }
+
+    pub one_more_node : AreNodes rs end nodes cells → AreNodes rs end (nodes ++ n ∷ []) (cells ++ entries)
+    one_more_node h k d l =
+        let s : length (nodes ++ n ∷ []) ≡ length nodes + 1 = length-append nodes (n ∷ []) in
+        ⊎_elim
+        (λ less. subst IsLeading (sym (get_or_append_left nodes (n ∷ []) d k less)) (old_leads (get_or nodes k d) (h k d less)))
+        (λ more. subst IsLeading (sym (get_or_push nodes n d k (omega arith))) last_leads)
+        (cases_lt k (length nodes))
+
+-- the ranges of one cell, where `cell` tells the cell of a number
+module _ (cell : ℕ → ℕ) (end : ℕ) (up : (x y : ℕ) → x ≤ y → y < end → cell x ≤ cell y) where
+  lower : (x y : ℕ) → x < end → cell x < cell y → x < y
+  lower x y x_in less = ⊎_elim (λ is. is) (λ not. let u : cell y ≤ cell x = up y x not x_in in absurd (omega arith)) (cases_lt x y)
+
+  pub narrowed : (rs : List HopRange) (x low high before after : ℕ) → EndsBelow rs end (length rs) → x < end → IsBetween rs x low high → before ≤ length rs → after ≤ length rs
+      → ((k : ℕ) (d : HopRange) → low ≤ k → k < before → cell (get_or rs k d).last < cell x)
+      → ((k : ℕ) (d : HopRange) → after ≤ k → k < high → cell x < cell (get_or rs k d).last)
+      → IsBetween rs x before after
+  narrowed rs x low high before after ends x_in b before_in after_in earlier later = record {
+    below = record {
+      within = before_in;
+      below = λ k d l. ⊎_elim (λ less. b.below.below k d less) (λ more. lower (get_or rs k d).last x (ends.below k d (omega arith)) (earlier k d more l)) (cases_lt k low);
+    };
+    from = record {
+      within = after_in;
+      from = λ k d le l. ⊎_elim (λ less. let u = lower x (get_or rs k d).last x_in (later k d le less) in omega arith) (λ more. b.from.from k d more l) (cases_lt k high);
+    };
+  }
+
+-- the cell of a higher number is no lower among those of all chunks
+module _ (tops : List ℕ) (are : AreTops tops) where
+  later_top : (c d : ℕ) → c ≤ d → d < length tops → get_or tops c 0 ≤ get_or tops d 0
+  later_top c d le l = ⊎_elim
+      (λ less. let r : get_or tops c 0 < get_or tops d 0 = are.rising c d 0 less l in omega arith)
+      (λ more. let same : c ≡ d = omega arith in subst (λ (m : ℕ). get_or tops c 0 ≤ get_or tops m 0) same (omega arith))
+      (cases_lt c d)
+
+  before_next : (h : ℕ) → h < 2 ^ 64 → cell_of tops h < get_or tops (h / 2 ^ 48 + 1) 0
+  before_next h l =
+      let all = are.all in
+      let c : ℕ = h / 2 ^ 48 in
+      let part : ℕ = h % 2 ^ 48 / 2 ^ 16 in
+      let n : ℕ = get_or tops (c + 1) 0 - get_or tops c 0 in
+      let some : get_or tops c 0 < get_or tops (c + 1) 0 = are.rising c (c + 1) 0 (omega arith) (omega arith) in
+      let m : part * n < 2 ^ 32 * n = mul-lt-mul_of_pos_right (omega arith) (omega arith) in
+      omega arith
+
+  cell_ascends : (h k : ℕ) → h ≤ k → k < 2 ^ 64 → cell_of tops h ≤ cell_of tops k
+  cell_ascends h k le l = ⊎_elim
+      (λ (less : h / 2 ^ 48 < k / 2 ^ 48).
+      let all = are.all in
+      let t = later_top (h / 2 ^ 48 + 1) (k / 2 ^ 48) (omega arith) (omega arith) in
+      let c = before_next h (omega arith) in
+      omega arith)
+      (λ (more : k / 2 ^ 48 ≤ h / 2 ^ 48).
+      let same : h / 2 ^ 48 ≡ k / 2 ^ 48 = omega arith in
+      subst (λ (c : ℕ). cell_of tops h ≤ get_or tops c 0 + k % 2 ^ 48 / 2 ^ 16 * (get_or tops (c + 1) 0 - get_or tops c 0) / 2 ^ 32) same
+      (let n : ℕ = get_or tops (h / 2 ^ 48 + 1) 0 - get_or tops (h / 2 ^ 48) 0 in
+      let m : h % 2 ^ 48 / 2 ^ 16 * n ≤ k % 2 ^ 48 / 2 ^ 16 * n = mul-le-mul_right n (omega arith) in
+      omega arith))
+      (cases_lt (h / 2 ^ 48) (k / 2 ^ 48))
+
+pub cell_by_ascends : (width : ℕ) (tops : Option (List ℕ)) → ((ts : List ℕ) → tops ≡ Some ts → AreTops ts) → (n : StoredNode) (x y : ℕ) → x ≤ y → y < 2 ^ width → cell_by width tops n x ≤ cell_by width tops n y
+cell_by_ascends width None are n x y le l = cell_in_ascends n x y le
+cell_by_ascends width (Some tops) are n x y le l =
+    let head : head_of width y < 2 ^ 64 = (div-lt_iff_lt-mul {k = 2 ^ width} {x = y * 2 ^ 64} {y = 2 ^ 64} (pow_pos width)).1 (omega arith) in
+    cell_ascends tops (are tops refl) (head_of width x) (head_of width y) (divided_ascends (x * 2 ^ 64) (y * 2 ^ 64) width (omega arith)) head
+
+-- entries lead on the numbers of the first c cells of a node, in which its ranges up to `place` end
+pub record AreLed (width : ℕ) (tops : Option (List ℕ)) (n : StoredNode) (rs : List HopRange) (nodes : List StoredNode) (c place : ℕ) (entries : List ℕ) : Type 0 where
+  pub least : n.before ≤ place
+  pub most : place ≤ n.after
+  pub earlier : (k : ℕ) (d : HopRange) → n.before ≤ k → k < place → cell_by width tops n (get_or rs k d).last < c
+  pub later : (k : ℕ) (d : HopRange) → place ≤ k → k < n.after → c ≤ cell_by width tops n (get_or rs k d).last
+  pub all : length entries ≡ c
+  pub leads : (x : ℕ) → cell_by width tops n x < c → x < 2 ^ width → IsBetween rs x n.before n.after → Leads nodes rs x (get_or entries (cell_by width tops n x) 0)
+
+pub led_on : (width : ℕ) (tops : Option (List ℕ)) → ((ts : List ℕ) → tops ≡ Some ts → AreTops ts) → (n : StoredNode) (rs : List HopRange) → ArePadded rs (2 ^ width) → n.after ≤ length rs
+    → (nodes new : List StoredNode) (c place next e : ℕ) (entries : List ℕ) → AreLed width tops n rs nodes c place entries → place ≤ next → next ≤ n.after
+    → ((k : ℕ) (d : HopRange) → place ≤ k → k < next → cell_by width tops n (get_or rs k d).last ≤ c) → (next < n.after → (d : HopRange) → c < cell_by width tops n (get_or rs next d).last)
+    → ((x f : ℕ) → Leads nodes rs x f → Leads new rs x f) → ((x : ℕ) → x < 2 ^ width → IsBetween rs x place next → Leads new rs x e) → AreLed width tops n rs new (c + 1) next (entries ++ e ∷ [])
+led_on width tops are n rs padded within nodes new c place next e entries i least most inside beyond kept leads =
+    let cell : ℕ → ℕ = cell_by width tops n in
+    let up : (x y : ℕ) → x ≤ y → y < 2 ^ width → cell x ≤ cell y = cell_by_ascends width tops are n in
+    let later : (k : ℕ) (d : HopRange) → next ≤ k → k < n.after → c + 1 ≤ cell (get_or rs k d).last = λ k d le l.
+    let b : c < cell (get_or rs next d).last = beyond (omega arith) d in
+    let a = up (get_or rs next d).last (get_or rs k d).last (padded.ascending next k d le (omega arith)) (padded.within.below k d (omega arith)) in
+    omega arith in
+    record {
+      least = let l = i.least in omega arith;
+      most = most;
+      earlier = λ k d b l. ⊎_elim
+          (λ less. let o : cell (get_or rs k d).last < c = i.earlier k d b less in omega arith)
+          (λ more. let o : cell (get_or rs k d).last ≤ c = inside k d more l in omega arith)
+          (cases_lt k place);
+      later = later;
+      all = let l : length (entries ++ e ∷ []) ≡ length entries + 1 = length-append entries (e ∷ []) in omega (arith, i.all);
+      leads = λ x l x_in b. ⊎_elim
+          (λ less. subst (λ (v : ℕ). Leads new rs x v) (sym (get_or_append_left entries (e ∷ []) 0 (cell x) (omega (arith, i.all)))) (kept x _ (i.leads x less x_in b)))
+          (λ more.
+          let is : cell x ≡ c = omega arith in
+          subst (λ (v : ℕ). Leads new rs x v) (sym (get_or_push entries e 0 (cell x) (omega (arith, i.all))))
+          (leads x x_in (narrowed cell (2 ^ width) up rs x n.before n.after place next padded.within x_in b (omega arith) (omega arith) (λ k d m k_in. let o : cell (get_or rs k d).last < c = i.earlier k d m k_in in omega arith) (λ k d m k_in. let o = later k d m k_in in omega arith))))
+          (cases_lt (cell x) c);
+    }

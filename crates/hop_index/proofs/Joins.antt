@@ -1,12 +1,13 @@
 -- The blocks of a run as one span.
 use Rattle.std.proofs.Common.{◌≡◌, ℕ, ◌^◌, ◌<◌, ◌≤◌, inl, inr, ⊎_elim, Bool, true, false, cond, length, length-append, List, [], ◌∷◌, ◌++◌, map, filter, Option, Some, refl, sym, ap, ◌∙◌, subst, arith}
+use Rattle.std.proofs.lemmas.Bool.{false_from_ne_true}
 use Rattle.std.proofs.lemmas.List.Elements.{filter-append}
 use Rattle.std.proofs.lemmas.List.{length-map, map-append}
 use Rattle.std.proofs.lemmas.Nat.{pow_pos}
 use Rattle.ipnet_addr.specs.Addresses.{Address, Family, same_family}
 use Rattle.ipnet_addr.proofs.Families.{family_from_test, test_from_family}
-use Rattle.ipnet_addr.proofs.Members.{In, In-left, In-right, In-cases}
-use Rattle.ipnet_addr.proofs.Ascending.{All-from_In, Any-from_In, In-from_All, In-from_Any, Rising, Rising-from_pairs, pairs_from_Rising}
+use Rattle.ipnet_addr.proofs.Members.{In, In-left, In-right}
+use Rattle.ipnet_addr.proofs.Ascending.{All-from_In, Any-from_In, Contains-from_In, In-from_All, In-from_Any, Rising, Rising-from_pairs, pairs_from_Rising}
 use Rattle.ipnet_blocks.specs.Blocks.{Block, HasAddress, first_of, free_bits, last}
 use Rattle.ipnet_blocks.proofs.BlockLaws.{has_first}
 use Rattle.ipnet_blocks.proofs.Cuts.{has_of_span, span_of_has}
@@ -18,8 +19,7 @@ use Rattle.route_table.specs.declared.hop_run.HopRun.{HopRun}
 use Rattle.hop_index.specs.Ranges.{HopRange, hop_in}
 use Rattle.hop_index.specs.InnerRanges.{AreSpans, EndsBefore, EndsBelow, HopSpan, IsIn, is_in, span_hop, span_of, spans_in}
 use Rattle.hop_index.proofs.Searches.{below_later}
-use Rattle.hop_index.proofs.Spans.{in_from_test, in_test, passed_over}
-use Rattle.hop_index.proofs.Walks.{Walked, hop_or}
+use Rattle.hop_index.proofs.Walks.{Walked, hop_or, in_from_test, in_test, passed_over}
 
 -- earlier and later members of an ascending list
 across : (xs ys : List HopSpan) → Rising EndsBefore (xs ++ ys) → (a b : HopSpan) → In a xs → In b ys → EndsBefore a b
@@ -111,14 +111,7 @@ module _ (ps left : List Piece) (run : HopRun) (is : BeginsWithRun ps run left) 
   pub others_stay : (f : Family) → (run_family run ≡ f → ⊥) → spans_in f ps ≡ spans_in f left
   others_stay f other = split_in f ∙ ap (λ qs. map span_of qs ++ spans_in f left) (none_kept (in_family f) pieces (λ p i.
       let t = In-map as_piece is.blocks p i in
-      test_false p (λ e. other (sym (family_is t.0 t.1) ∙ ap (λ (q : Piece). q.block.family) (sym t.2) ∙ family_from_test p.block.family f e))))
-    where
-      test_false : (p : Piece) → (in_family f p ≡ true → ⊥) → in_family f p ≡ false
-      test_false p h = go (in_family f p) refl
-        where
-          go : (b : Bool) → in_family f p ≡ b → in_family f p ≡ false
-          go true e = absurd (h e)
-          go false e = e
+      false_from_ne_true (in_family f p) (λ e. other (sym (family_is t.0 t.1) ∙ ap (λ (q : Piece). q.block.family) (sym t.2) ∙ family_from_test p.block.family f e))))
 
   own_split : spans_in (run_family run) ps ≡ map span_of pieces ++ spans_in (run_family run) left
   own_split = split_in (run_family run) ∙ ap (λ qs. map span_of qs ++ spans_in (run_family run) left) (all_kept (in_family (run_family run)) pieces (λ p i.
@@ -159,9 +152,5 @@ module _ (ps left : List Piece) (run : HopRun) (is : BeginsWithRun ps run left) 
       let at : Address = record { family = run_family run; number = run_first run } in
       let some = is.some in
       let t = In-from_Any (λ b. HasAddress b at) is.blocks ((is.addresses at).1 (refl, omega arith, some)) in
-      let l : 0 < length is.blocks = not_empty is.blocks t.0 t.1 in
+      let l : 0 < length is.blocks = let k = (Contains-from_In is.blocks t.0 t.1).1 in omega arith in
       omega (arith, l, ap (λ (qs : List Piece). length qs) is.pieces, length-append pieces left, length-map is.blocks as_piece)
-    where
-      not_empty : (bs : List Block) (b : Block) → In b bs → 0 < length bs
-      not_empty [] b i = absurd i
-      not_empty (c ∷ bs) b i = omega arith

@@ -1,7 +1,5 @@
 pub mod Marks
 pub mod Searches
-pub mod Narrowing
-pub mod Spans
 pub mod Walks
 pub mod Pieces
 pub mod Joins

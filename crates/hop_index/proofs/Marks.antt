@@ -1,5 +1,6 @@
 -- Stored ranges and their marks as ranges of hops.
 use Rattle.std.proofs.Common.{◌≡◌, ◌==◌, ◌&&◌, not, ℕ, zero, suc, ◌+◌, ◌<◌, ◌≤◌, Bool, true, false, cond, List, [], ◌∷◌, ◌++◌, Option, Some, None, length, get_or, replicate, refl, sym, ap, ◌∙◌, arith}
+use Rattle.std.proofs.lemmas.Bool.{false_from_ne_true}
 use Rattle.hop_index.specs.Ranges.{HopRange}
 use Rattle.hop_index.specs.InnerRanges.{StoredRange, hop_of_mark, marked_ranges}
 
@@ -43,11 +44,7 @@ hop_marked h = go (h == 4294967295)
     go false = refl
 
 pub hop_unmarked : (h : ℕ) (m : Bool) → (h ≡ 4294967295 → ⊥) → hop_of_mark h m ≡ Some h
-hop_unmarked h m other = go (h == 4294967295) refl
-  where
-    go : (b : Bool) → (h == 4294967295) ≡ b → cond (b && not m) None (Some h) ≡ Some h
-    go true e = absurd (other (grind arith))
-    go false e = refl
+hop_unmarked h m other = let test : (h == 4294967295) ≡ false = false_from_ne_true (h == 4294967295) (λ e. other (grind arith)) in ap (λ b. cond (b && not m) None (Some h)) test
 
 -- the ranges v of a model
 module _ (rs : List StoredRange) (ms : List Bool) (v : List HopRange) (is : marked_ranges rs ms ≡ v) where

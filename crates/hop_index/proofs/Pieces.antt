@@ -15,7 +15,7 @@ use Rattle.route_laws.proofs.Flats.{Sooner, not_inside, piece_at, piece_is_block
 use Rattle.route_laws.proofs.Ordered.{before_apart}
 use Rattle.route_table.proofs.FlatPieces.{Rising-map}
 use Rattle.hop_index.specs.InnerRanges.{AreSpans, EndsBefore, HopSpan, IsIn, span_hop, span_of, spans_in}
-use Rattle.hop_index.proofs.Spans.{in_or_none}
+use Rattle.hop_index.proofs.Walks.{in_or_none}
 
 module _ (h : Address → Option ℕ) (ps : List Piece) (flat : IsFlat h ps) where
   abbrev in_family : Family → Piece → Bool

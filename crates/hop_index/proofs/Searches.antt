@@ -1,8 +1,8 @@
 -- How many of ascending ranges end below a number, and its hop.
-use Rattle.std.proofs.Common.{◌≡◌, ℕ, zero, suc, ◌+◌, ◌-◌, ◌<◌, ◌≤◌, ⊎_elim, Bool, true, false, cond, nat_le, List, [], ◌∷◌, ◌++◌, Option, None, length, length-append, get_or, refl, sym, ap, ◌∙◌, arith}
+use Rattle.std.proofs.Common.{◌≡◌, ℕ, zero, suc, ◌+◌, ◌-◌, ◌<◌, ◌≤◌, ⊎_elim, Bool, true, false, cond, nat_le, List, [], ◌∷◌, ◌++◌, Option, None, length, length-append, get_or, refl, sym, ap, ◌∙◌, subst, arith}
 use Rattle.std.proofs.lemmas.Bool.{cases_lt}
 use Rattle.std.proofs.lemmas.Bool.Decides.{nat_tests}
-use Rattle.std.proofs.lemmas.List.{get_or_append_left, get_or_default, get_or_push}
+use Rattle.std.proofs.lemmas.List.{append-nil, get_or_append_left, get_or_default, get_or_push}
 use Rattle.hop_index.specs.Ranges.{HopRange, hop_in}
 use Rattle.hop_index.specs.InnerRanges.{AreAscending, ArePadded, EndsBelow, EndsFrom}
 
@@ -71,11 +71,7 @@ past (r ∷ rs) ss x b =
     ap (λ t. cond t r.hop (hop_in (rs ++ ss) x)) test ∙ past rs ss x (record { within = omega arith; below = λ k e k_in. b.below (suc k) e (omega arith) })
 
 pub none_past : (rs : List HopRange) (x : ℕ) → EndsBelow rs x (length rs) → hop_in rs x ≡ None
-none_past [] x b = refl
-none_past (r ∷ rs) x b =
-    let here : r.last < x = b.below 0 r (omega arith) in
-    let test : nat_le x r.last ≡ false = grind (arith, nat_tests) in
-    ap (λ t. cond t r.hop (hop_in rs x)) test ∙ none_past rs x (record { within = omega arith; below = λ k e k_in. b.below (suc k) e (omega arith) })
+none_past rs x b = ap (λ (ss : List HopRange). hop_in ss x) (sym (append-nil rs)) ∙ past rs [] x b
 
 -- more ranges after one that ends at x or above
 pub reached : (rs ss : List HopRange) (x : ℕ) → (EndsBelow rs x (length rs) → ⊥) → hop_in (rs ++ ss) x ≡ hop_in rs x
@@ -114,37 +110,24 @@ module _ (rs : List HopRange) (r : HopRange) where
   last_old : (k : ℕ) (d : HopRange) → k < length rs → (get_or (rs ++ r ∷ []) k d).last ≡ (get_or rs k d).last
   last_old k d l = ap (λ (s : HopRange). s.last) (get_or_append_left rs (r ∷ []) d k l)
 
+  -- a property of the ends of the others and of its own end
+  each_push : (P : ℕ → Type 0) (k : ℕ) (d : HopRange) → (k < length rs → P (get_or rs k d).last) → P r.last → k < length (rs ++ r ∷ []) → P (get_or (rs ++ r ∷ []) k d).last
+  each_push P k d old new k_in = ⊎_elim (λ less. subst P (sym (last_old k d less)) (old less)) (λ more. subst P (sym (last_push k d (omega (arith, length_push)))) new) (cases_lt k (length rs))
+
   -- one more range that ends below
   pub push_below : (y : ℕ) → EndsBelow rs y (length rs) → r.last < y → EndsBelow (rs ++ r ∷ []) y (length (rs ++ r ∷ []))
-  push_below y b l = record {
-    within = omega arith;
-    below = λ k d k_in. ⊎_elim
-        (λ less. let o = last_old k d less in let f : (get_or rs k d).last < y = b.below k d less in omega arith)
-        (λ more. let o = last_push k d (omega (arith, length_push)) in omega arith)
-        (cases_lt k (length rs));
-  }
+  push_below y b l = record { within = omega arith; below = λ k d. each_push (λ e. e < y) k d (b.below k d) l }
 
   -- one more range that ends at the ends of the others or above
   pub push_ascends : AreAscending rs → EndsBelow rs (r.last + 1) (length rs) → AreAscending (rs ++ r ∷ [])
-  push_ascends up b j k d le k_in = ⊎_elim
-      (λ less. let o = last_old k d less in let p = last_old j d (omega arith) in let u : (get_or rs j d).last ≤ (get_or rs k d).last = up j k d le less in omega arith)
-      (λ more. let o = last_push k d (omega (arith, length_push)) in ⊎_elim
-      (λ less. let p = last_old j d less in let f : (get_or rs j d).last < r.last + 1 = b.below j d less in omega arith)
-      (λ last. let p = last_push j d (omega (arith, length_push)) in omega arith)
-      (cases_lt j (length rs)))
-      (cases_lt k (length rs))
+  push_ascends up b j k d le k_in = each_push (λ e. (get_or (rs ++ r ∷ []) j d).last ≤ e) k d
+      (λ less. let p = last_old j d (omega arith) in let u : (get_or rs j d).last ≤ (get_or rs k d).last = up j k d le less in omega arith)
+      (each_push (λ e. e ≤ r.last) j d (λ less. let f : (get_or rs j d).last < r.last + 1 = b.below j d less in omega arith) (omega arith) (omega arith))
+      k_in
 
   -- the new range is past no number up to its end
   pub push_reaches : (x : ℕ) → x ≤ r.last → EndsBelow (rs ++ r ∷ []) x (length (rs ++ r ∷ [])) → ⊥
   push_reaches x le b = let f : (get_or (rs ++ r ∷ []) (length rs) r).last < x = b.below (length rs) r (omega (arith, length_push)) in let o = last_push (length rs) r refl in absurd (omega arith)
 
   pub push_from : (y i : ℕ) → y ≤ r.last → EndsFrom rs y i → EndsFrom (rs ++ r ∷ []) y i
-  push_from y i le f =
-      let within = f.within in
-      record {
-        within = omega (arith, length_push);
-        from = λ k d i_k k_in. ⊎_elim
-            (λ less. let o = last_old k d less in let g : y ≤ (get_or rs k d).last = f.from k d i_k less in omega arith)
-            (λ more. let o = last_push k d (omega (arith, length_push)) in omega arith)
-            (cases_lt k (length rs));
-      }
+  push_from y i le f = let within = f.within in record { within = omega (arith, length_push); from = λ k d i_k. each_push (λ e. y ≤ e) k d (f.from k d i_k) le }

@@ -1,7 +1,7 @@
 -- Nodes, which divide cells again, and the entries of cells.
-use Rattle.std.specs.Prelude.{ℕ, ◌+◌, ◌-◌, ◌/◌, ◌^◌, ◌<◌, ◌≤◌, List, length, min, slice_index, slice_index_or}
+use Rattle.std.specs.Prelude.{ℕ, ◌+◌, ◌-◌, ◌/◌, ◌^◌, ◌<◌, ◌≤◌, List, Option, Some, None, length, min, slice_index, slice_index_or}
 use Rattle.hop_index.specs.Ranges.{HopRange}
-use Rattle.hop_index.specs.InnerRanges.{EndsBelow, EndsFrom}
+use Rattle.hop_index.specs.InnerRanges.{EndsBelow, EndsFrom, cell_of, head_of}
 
 -- a cell in which the ranges from `before` to `after` end, divided into `last` + 1 cells of 2 ^ `shift` numbers; the entry of the first one is at `place`
 pub record StoredNode : Type 0 where
@@ -16,6 +16,11 @@ pub record StoredNode : Type 0 where
 abbrev pub cell_in : StoredNode → ℕ → ℕ
 cell_in n x = min n.last ((x - n.first) / 2 ^ n.shift)
 
+-- the cell of a number among those of all chunks, or of the node if there are no tops
+abbrev pub cell_by : ℕ → Option (List ℕ) → StoredNode → ℕ → ℕ
+cell_by width None n x = cell_in n x
+cell_by width (Some tops) n x = cell_of tops (head_of width x)
+
 -- at least `low` and at most `high` ranges end below x
 pub record IsBetween (rs : List HopRange) (x low high : ℕ) : Type 0 where
   pub below : EndsBelow rs x low
@@ -27,8 +32,10 @@ pub record Leads (nodes : List StoredNode) (rs : List HopRange) (x entry : ℕ) 
   pub within : 2147483648 ≤ entry → entry - 2147483648 < length nodes
   pub many : 2147483648 ≤ entry → (d : StoredNode) → IsBetween rs x (slice_index_or nodes (entry - 2147483648) d).before (slice_index_or nodes (entry - 2147483648) d).after
 
--- a node leads each number of its ranges on, by the entry of its cell
-pub record AreNodes (rs : List HopRange) (end : ℕ) (nodes : List StoredNode) (cells : List ℕ) : Type 0 where
-  pub within : (n : ℕ) (d : StoredNode) → n < length nodes → (slice_index_or nodes n d).place + (slice_index_or nodes n d).last < length cells
-  pub leads : (n x : ℕ) (d : StoredNode) → n < length nodes → x < end → IsBetween rs x (slice_index_or nodes n d).before (slice_index_or nodes n d).after
-      → Leads nodes rs x (slice_index cells ((slice_index_or nodes n d).place + cell_in (slice_index_or nodes n d) x))
+-- entries of cells lead each number on that the ranges from `before` to `after` leave, by its cell
+pub record AreEntries (cell : ℕ → ℕ) (end : ℕ) (nodes : List StoredNode) (rs : List HopRange) (before after : ℕ) (entries : List ℕ) : Type 0 where
+  pub within : (x : ℕ) → x < end → cell x < length entries
+  pub leads : (x : ℕ) → x < end → IsBetween rs x before after → Leads nodes rs x (slice_index entries (cell x))
+
+abbrev pub AreNodes : List HopRange → ℕ → List StoredNode → List ℕ → Type 0
+AreNodes rs end nodes cells = (k : ℕ) (d : StoredNode) → k < length nodes → AreEntries (λ x. (slice_index_or nodes k d).place + cell_in (slice_index_or nodes k d) x) end nodes rs (slice_index_or nodes k d).before (slice_index_or nodes k d).after cells

@@ -1,8 +1,9 @@
 -- Ascending ranges, the cells that narrow a search in them, and the runs of a flat list.
 use Rattle.std.specs.Prelude.{◌≡◌, ◌==◌, ℕ, ◌+◌, ◌*◌, ◌/◌, ◌%◌, ◌-◌, ◌^◌, ◌<◌, ◌≤◌, ◌&&◌, nat_le, not, if◌then◌else◌, Bool, false, List, [], ◌∷◌, Option, Some, None, All, AllPairs, filter, length, map, slice_index, slice_index_or}
-use Rattle.ipnet_addr.specs.Addresses.{Family, same_family}
+use Rattle.ipnet_addr.specs.Addresses.{Address, Family, same_family}
 use Rattle.ipnet_blocks.specs.Blocks.{first, last}
 use Rattle.route_laws.specs.Flats.{Piece}
+use Rattle.hop_index.specs.Indexes.{Index, ranges_of}
 use Rattle.hop_index.specs.Ranges.{HopRange, hop_in}
 
 -- a range as an index stores it: 2 ^ 32 - 1 stands for no hop, unless a mark says that it is the hop
@@ -40,26 +41,20 @@ pub record ArePadded (rs : List HopRange) (end : ℕ) : Type 0 where
   pub four : 4 ≤ length rs
   pub pads : EndsFrom rs (end - 1) (length rs - 4)
 
--- each number is above the one before it, by less than 2 ^ 16
-abbrev pub AreRising : List ℕ → Type 0
-AreRising tops = (c : ℕ) → c + 1 < length tops → (slice_index tops c < slice_index tops (c + 1)) × (slice_index tops (c + 1) < slice_index tops c + 65536)
-
--- the first cell of each chunk, and the number of all cells. A chunk has the numbers with the same first 16 bits
+-- the first cell of each chunk, and the number of all cells. A chunk has the numbers with the same first 16 bits, and at least one cell
 pub record AreTops (tops : List ℕ) : Type 0 where
   pub all : length tops ≡ 65537
-  pub rising : AreRising tops
+  pub rising : AllPairs (λ (c d : ℕ). c < d) tops
 
--- the cell of a number by its first 64 bits: the cells of a chunk divide its numbers evenly
+-- the first 64 bits of a number of `width` bits; a number of IPv4 has zeros after its 32 bits
+abbrev pub head_of : ℕ → ℕ → ℕ
+head_of width x = x * 2 ^ 64 / 2 ^ width
+
+-- the cell of a number by its first 64 bits: the cells of a chunk divide its numbers evenly, by the 32 bits after the first 16
 abbrev pub cell_of : List ℕ → ℕ → ℕ
 cell_of tops head =
     let chunk = head / 2 ^ 48 in
-    slice_index tops chunk + head % 2 ^ 48 * (slice_index tops (chunk + 1) - slice_index tops chunk) / 2 ^ 48
-
--- for each cell: how many ranges end in earlier cells, where `cell` tells the cell of a number
-pub record AreCells (cell : ℕ → ℕ) (rs : List HopRange) (cells : List ℕ) : Type 0 where
-  pub within : (c : ℕ) → c < length cells → slice_index cells c ≤ length rs
-  pub before : (c k : ℕ) (d : HopRange) → c < length cells → k < slice_index cells c → cell (slice_index_or rs k d).last < c
-  pub after : (c k : ℕ) (d : HopRange) → c < length cells → slice_index cells c ≤ k → k < length rs → c ≤ cell (slice_index_or rs k d).last
+    slice_index tops chunk + head % 2 ^ 48 / 2 ^ 16 * (slice_index tops (chunk + 1) - slice_index tops chunk) / 2 ^ 32
 
 -- the numbers from first to last have this hop
 pub record HopSpan : Type 0 where
@@ -101,3 +96,12 @@ span_of p = record { first = first p.block; last = last p.block; hop = p.number 
 
 abbrev pub spans_in : Family → List Piece → List HopSpan
 spans_in f ps = map span_of (filter (λ p. same_family p.block.family f) ps)
+
+-- at least the first and at most the second number of ranges end below the address
+abbrev pub IsWithin : Index → Address → ℕ × ℕ → Type 0
+IsWithin i x b = EndsBelow (ranges_of x.family i) x.number b.0 × EndsFrom (ranges_of x.family i) x.number b.1
+
+-- bounds for each address
+pub record AreBounds {A : Type 0} (i : Index) (address : A → Address) (addrs : List A) (bounds : List (ℕ × ℕ)) : Type 0 where
+  pub all : length bounds ≡ length addrs
+  pub each : (k : ℕ) (a : A) (b : ℕ × ℕ) → k < length addrs → IsWithin i (address (slice_index_or addrs k a)) (slice_index_or bounds k b)

@@ -2,7 +2,7 @@
 ghost use Rattle.std.specs.Prelude.{◌≡◌, ℕ, ◌≤◌, length, map};
 ghost use Rattle.ipnet_addr.specs.Addresses.{Address, Ipv4, address_of};
 ghost use Rattle.hop_index.specs.Indexes.{hop_of};
-ghost use Rattle.hop_index.specs.InnerIndexes.{AreBounds};
+ghost use Rattle.hop_index.specs.InnerRanges.{AreBounds};
 
 use crate::index::HopIndex;
 use ipnet::IpAddr;

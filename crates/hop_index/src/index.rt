@@ -6,8 +6,7 @@ ghost use Rattle.route_laws.specs.Networks.{routes_of};
 ghost use Rattle.route_laws.specs.Tables.{hop_at};
 ghost use Rattle.prefix_trie.specs.declared.refused.Refused.TheVariants.{Memory};
 ghost use Rattle.hop_index.specs.Indexes.{hop_of};
-ghost use Rattle.hop_index.specs.InnerIndexes.{IsWithin};
-ghost use Rattle.hop_index.specs.InnerRanges.{AreRangesOf, spans_in};
+ghost use Rattle.hop_index.specs.InnerRanges.{AreRangesOf, IsWithin, spans_in};
 
 use crate::batches::{Addressed, store_all};
 use crate::lookups::Lookups;

@@ -3,8 +3,8 @@ ghost use Rattle.std.specs.Prelude.{◌≡◌, ℕ, ◌+◌, ◌^◌, ◌<◌, I
 ghost use Rattle.hop_index.specs.Ranges.{hop_in};
 ghost use Rattle.hop_index.specs.InnerRanges.{AreAscending, ArePadded, EndsBelow, EndsFrom};
 
-use crate::cells::{cell_at, cells_of, tops_of};
-use crate::nodes::Nodes;
+use crate::cells::{cell_at, tops_of};
+use crate::nodes::{LEVELS, MARK, Node, Nodes};
 use crate::ranges::Ranges;
 use crate::stored::Stored;
 use std::alloc::{AllocError, Global};
@@ -76,33 +76,34 @@ pub(crate) struct Lookups<N: Stored> {
 }
 
 impl<N: Stored> Model for Lookups<N> {
-    ghost use Rattle.std.specs.Prelude.{◌≡◌, ℕ, ◌+◌, ◌^◌, ◌<◌, List, length, slice_index};
+    ghost use Rattle.std.specs.Prelude.{◌^◌, List, length};
     ghost use Rattle.hop_index.specs.Ranges.{HopRange};
-    ghost use Rattle.hop_index.specs.InnerNodes.{AreNodes, Leads};
-    ghost use Rattle.hop_index.specs.InnerRanges.{ArePadded, AreTops, cell_of};
+    ghost use Rattle.hop_index.specs.InnerNodes.{AreEntries, AreNodes};
+    ghost use Rattle.hop_index.specs.InnerRanges.{ArePadded, AreTops, cell_of, head_of};
 
     ghost Value = { List HopRange };
 
     ghost view = { λ a. a.nodes.ranges };
 
-    ghost invariant = { λ a. AreTops a.tops.items × (length a.cells.items ≡ slice_index a.tops.items 65536 + 1) × ArePadded a.nodes.ranges (2 ^ N.width) × AreNodes a.nodes.ranges (2 ^ N.width) a.nodes.nodes.items a.nodes.cells.items × ((x : ℕ) → x < 2 ^ N.width → Leads a.nodes.nodes.items a.nodes.ranges x (slice_index a.cells.items (cell_of a.tops.items (N.head_of x)))) };
+    ghost invariant = { λ a. AreTops a.tops.items × ArePadded a.nodes.ranges (2 ^ N.width) × AreNodes a.nodes.ranges (2 ^ N.width) a.nodes.nodes.items a.nodes.cells.items × AreEntries (λ x. cell_of a.tops.items (head_of N.width x)) (2 ^ N.width) a.nodes.nodes.items a.nodes.ranges 0 (length a.nodes.ranges) a.cells.items };
 }
 
 impl<N: Stored> Lookups<N> {
-    /// Compiles the lookup table of the ranges.
-    ///
-    /// # Errors
-    /// `AllocError` if an allocation fails.
+    /// The lookups of the ranges.
     pub(crate) fn new(alloc: Global, mut ranges: Ranges<N>) -> Result<Lookups<N>, AllocError>
         requires ascending { AreAscending ranges }
         requires within { EndsBelow ranges (2 ^ N.width) (length ranges) }
         ensures { IfOk result (λ l. (x : ℕ) → hop_in l x ≡ hop_in ranges x) }
     {
         ranges.pad()?;
+        let end = ranges.len();
+        if end >= MARK as usize {
+            return Err(AllocError);
+        }
         let tops = tops_of(alloc, &ranges)?;
-        let mut cells = cells_of(alloc, &ranges, &tops)?;
+        let all = Node::over(&ranges, 0, end as u32, 0);
         let mut nodes = Nodes::new(alloc, ranges);
-        nodes.divide(alloc, &mut cells)?;
+        let cells = nodes.entries(alloc, &all, Some(&tops), LEVELS)?;
         Ok(Lookups { tops, cells, nodes })
     }
 

@@ -1,19 +1,20 @@
 //! Nodes: cells in which many ranges end, divided again.
-ghost use Rattle.std.specs.Prelude.{◌≡◌, ℕ, ◌+◌, ◌-◌, ◌^◌, ◌<◌, ◌≤◌, ◌++◌, [], ◌∷◌, IfOk, OnOk, length, slice_index, slice_index_or};
+ghost use Rattle.std.specs.Prelude.{◌≡◌, ℕ, ◌+◌, ◌-◌, ◌^◌, ◌<◌, ◌≤◌, ◌++◌, [], ◌∷◌, List, Some, IfOk, OnOk, length, option_copied, slice_index_or};
 ghost use Rattle.hop_index.specs.Ranges.{HopRange, hop_in};
-ghost use Rattle.hop_index.specs.InnerRanges.{ArePadded, EndsBelow, EndsFrom};
-ghost use Rattle.hop_index.specs.InnerNodes.{AreNodes, IsBetween, Leads, StoredNode, cell_in};
+ghost use Rattle.hop_index.specs.InnerRanges.{ArePadded, AreTops, EndsBelow, EndsFrom};
+ghost use Rattle.hop_index.specs.InnerNodes.{AreEntries, AreNodes, IsBetween, Leads, StoredNode, cell_by, cell_in};
 
+use crate::cells::cell_at;
 use crate::ranges::Ranges;
 use crate::stored::Stored;
 use std::alloc::{AllocError, Global};
 use std::marker::Model;
 
 /// Entries from here on are nodes.
-const MARK: u32 = 1 << 31;
+pub(crate) const MARK: u32 = 1 << 31;
 
 /// The most nodes on the way to an entry.
-const LEVELS: u32 = 3;
+pub(crate) const LEVELS: u32 = 3;
 
 /// A cell in which more than four ranges end, divided into cells of one length.
 #[derive(Drop)]
@@ -53,7 +54,7 @@ fn shift_of<N: Stored>(first: N, last: N, count: u32) -> u32
 
 impl<N: Stored> Node<N> {
     /// A node of the ranges from `before` to `after`, with at most `most` + 1 cells.
-    fn over(ranges: &Ranges<N>, before: u32, after: u32, most: u32) -> Node<N>
+    pub(crate) fn over(ranges: &Ranges<N>, before: u32, after: u32, most: u32) -> Node<N>
         requires some { before < after }
         requires within { after ≤ length ranges.now }
         ensures before { result.before ≡ before }
@@ -90,19 +91,24 @@ impl<N: Stored> Node<N> {
         (self.before, self.after)
     }
 
-    /// The number of its cells.
-    fn count(&self) -> usize
-        ensures { result ≡ self.now.last + 1 }
-    {
-        self.last as usize + 1
-    }
-
     /// The cell of a number among those of the node.
     #[inline]
     fn cell(&self, number: N) -> u32
         ensures { result ≡ cell_in self.now (N.number number) }
     {
         number.steps(self.first, self.shift, self.last)
+    }
+
+    /// The cell of a number among those of all chunks, or of the node if there are no tops.
+    fn cell_by(&self, tops: Option<&[u32]>, number: N) -> usize
+        requires { (ts : List ℕ) → option_copied tops ≡ Some ts → AreTops ts }
+        ensures cell { result ≡ cell_by N.width (option_copied tops.entry) self.now (N.number number) }
+        ensures few { result < 2 ^ 33 }
+    {
+        match tops {
+            Some(tops) => cell_at(tops, number.head()),
+            None => self.cell(number) as usize,
+        }
     }
 
     /// The place of the entry of the cell of a number.
@@ -149,8 +155,7 @@ impl<N: Stored> Nodes<N> {
     /// Adds a node with the entries of its cells. Returns its own entry.
     fn add(&mut self, node: Node<N>, entries: &[u32]) -> Result<u32, AllocError>
         requires nodes { AreNodes self.old.ranges (2 ^ N.width) self.old.nodes.items self.old.cells.items }
-        requires all { length entries.now ≡ node.last + 1 }
-        requires leads { (x : ℕ) → x < 2 ^ N.width → IsBetween self.old.ranges x node.before node.after → (d : StoredNode) → d.before ≡ node.before → d.after ≡ node.after → Leads (self.old.nodes.items ++ d ∷ []) self.old.ranges x (slice_index entries.now (cell_in node x)) }
+        requires entries { (d : StoredNode) → d.before ≡ node.before → d.after ≡ node.after → AreEntries (cell_in node) (2 ^ N.width) (self.old.nodes.items ++ d ∷ []) self.old.ranges node.before node.after entries.now }
         ensures ranges { OnOk result (self.new.ranges ≡ self.old.ranges) }
         ensures nodes { OnOk result (AreNodes self.new.ranges (2 ^ N.width) self.new.nodes.items self.new.cells.items) }
         ensures kept { OnOk result ((x entry : ℕ) → Leads self.old.nodes.items self.old.ranges x entry → Leads self.new.nodes.items self.old.ranges x entry) }
@@ -166,75 +171,75 @@ impl<N: Stored> Nodes<N> {
     }
 
     /// The first range from `place` on that ends in a later cell of the node, or the end of its ranges.
-    fn after_cell(&self, node: &Node<N>, mut place: u32, cell: usize) -> u32
+    fn after_cell(&self, node: &Node<N>, tops: Option<&[u32]>, mut place: u32, cell: usize) -> u32
+        requires tops { (ts : List ℕ) → option_copied tops ≡ Some ts → AreTops ts }
         requires place { place ≤ node.now.after }
         requires within { node.now.after ≤ length self.now.ranges }
         ensures least { place ≤ result }
         ensures most { result ≤ node.now.after }
-        ensures inside { (k : ℕ) (d : HopRange) → place ≤ k → k < result → cell_in node.now (slice_index_or self.now.ranges k d).last ≤ cell }
-        ensures beyond { result < node.now.after → (d : HopRange) → cell < cell_in node.now (slice_index_or self.now.ranges result d).last }
+        ensures inside { (k : ℕ) (d : HopRange) → place ≤ k → k < result → cell_by N.width (option_copied tops.entry) node.now (slice_index_or self.now.ranges k d).last ≤ cell }
+        ensures beyond { result < node.now.after → (d : HopRange) → cell < cell_by N.width (option_copied tops.entry) node.now (slice_index_or self.now.ranges result d).last }
     {
         while place < node.bounds().1
-            && node.cell(self.ranges.last(place as usize)) as usize <= cell
+            && node.cell_by(tops, self.ranges.last(place as usize)) <= cell
         {
             place += 1;
         }
         place
     }
 
-    /// The entry of a cell in which the ranges from `before` to `after` end, with at most so many levels of nodes.
-    fn entry(
-        &mut self,
-        alloc: Global,
-        before: u32,
-        after: u32,
-        levels: u32,
-    ) -> Result<u32, AllocError>
-        requires ranges { ArePadded self.old.ranges (2 ^ N.width) }
-        requires few { length self.old.ranges < 2147483648 }
-        requires before { before ≤ length self.old.ranges }
+    /// Adds a node of the last level. It has one cell, whose entry is the node's own.
+    fn add_last(&mut self, before: u32, after: u32) -> Result<u32, AllocError>
+        requires before { before < after }
         requires after { after ≤ length self.old.ranges }
         requires nodes { AreNodes self.old.ranges (2 ^ N.width) self.old.nodes.items self.old.cells.items }
         ensures ranges { OnOk result (self.new.ranges ≡ self.old.ranges) }
         ensures nodes { OnOk result (AreNodes self.new.ranges (2 ^ N.width) self.new.nodes.items self.new.cells.items) }
         ensures kept { OnOk result ((x entry : ℕ) → Leads self.old.nodes.items self.old.ranges x entry → Leads self.new.nodes.items self.old.ranges x entry) }
-        ensures leads { IfOk result (λ e. (x : ℕ) → x < 2 ^ N.width → IsBetween self.old.ranges x before after → Leads self.new.nodes.items self.old.ranges x e) }
+        ensures leads { IfOk result (λ e. (x : ℕ) → IsBetween self.old.ranges x before after → Leads self.new.nodes.items self.old.ranges x e) }
     {
-        if after <= before + 4 {
-            return Ok(before);
-        }
-        if levels == 0 {
-            let own = self.next_entry()?;
-            let node = Node::over(&self.ranges, before, after, 0);
-            return self.add(node, &[own]);
-        }
-        let node = Node::over(&self.ranges, before, after, after - before - 1);
-        let mut entries = Vec::with_capacity(alloc, node.count())?;
-        let mut place = before;
-        for cell in 0..node.count() {
-            let next = self.after_cell(&node, place, cell);
-            entries.push(self.entry(alloc, place, next, levels - 1)?)?;
-            place = next;
-        }
-        self.add(node, entries.as_slice())
+        let own = self.next_entry()?;
+        let node = Node::over(&self.ranges, before, after, 0);
+        self.add(node, &[own])
     }
 
-    /// Makes an entry of each count of a list: how many ranges end before a cell. The last count, after all cells, stays.
-    pub(crate) fn divide(&mut self, alloc: Global, cells: &mut [u32]) -> Result<(), AllocError>
+    /// The entries of the cells of a node, which are those of all chunks if there are tops. At most so many levels of nodes are below.
+    pub(crate) fn entries(
+        &mut self,
+        alloc: Global,
+        node: &Node<N>,
+        tops: Option<&[u32]>,
+        levels: u32,
+    ) -> Result<Vec<u32>, AllocError>
+        requires tops { (ts : List ℕ) → option_copied tops ≡ Some ts → AreTops ts }
         requires ranges { ArePadded self.old.ranges (2 ^ N.width) }
-        requires cells { (c : ℕ) → c < length cells.old → slice_index cells.old c ≤ length self.old.ranges }
+        requires few { length self.old.ranges < 2147483648 }
+        requires before { node.now.before ≤ node.now.after }
+        requires after { node.now.after ≤ length self.old.ranges }
         requires nodes { AreNodes self.old.ranges (2 ^ N.width) self.old.nodes.items self.old.cells.items }
         ensures ranges { OnOk result (self.new.ranges ≡ self.old.ranges) }
         ensures nodes { OnOk result (AreNodes self.new.ranges (2 ^ N.width) self.new.nodes.items self.new.cells.items) }
-        ensures leads { OnOk result ((c x : ℕ) → c + 1 < length cells.old → x < 2 ^ N.width → IsBetween self.old.ranges x (slice_index cells.old c) (slice_index cells.old (c + 1)) → Leads self.new.nodes.items self.old.ranges x (slice_index cells.new c)) }
+        ensures kept { OnOk result ((x entry : ℕ) → Leads self.old.nodes.items self.old.ranges x entry → Leads self.new.nodes.items self.old.ranges x entry) }
+        ensures entries { IfOk result (λ es. AreEntries (cell_by N.width (option_copied tops.entry) node.now) (2 ^ N.width) self.new.nodes.items self.old.ranges node.now.before node.now.after es.items) }
     {
-        if self.ranges.len() >= MARK as usize {
-            return Err(AllocError);
+        let end = node.cell_by(tops, N::highest()) + 1;
+        let mut entries = Vec::with_capacity(alloc, end)?;
+        let mut place = node.bounds().0;
+        for cell in 0..end {
+            let next = self.after_cell(node, tops, place, cell);
+            let entry = if next <= place + 4 {
+                place
+            } else if levels == 0 {
+                self.add_last(place, next)?
+            } else {
+                let inner = Node::over(&self.ranges, place, next, next - place - 1);
+                let inside = self.entries(alloc, &inner, None, levels - 1)?;
+                self.add(inner, inside.as_slice())?
+            };
+            entries.push(entry)?;
+            place = next;
         }
-        for place in 1..cells.len() {
-            cells[place - 1] = self.entry(alloc, cells[place - 1], cells[place], LEVELS)?;
-        }
-        Ok(())
+        Ok(entries)
     }
 
     /// The entry that nodes lead a number to.

@@ -1,6 +1,6 @@
 //! The numbers of addresses as an index stores them: in 4 bytes for IPv4, in 16 for IPv6.
 ghost use Rattle.std.specs.Prelude.{◌≡◌, ℕ, ◌+◌, ◌*◌, ◌/◌, ◌-◌, ◌^◌, ◌<◌, ◌≤◌, ◌↔◌, IsTrue, min};
-ghost use Rattle.hop_index.specs.InnerHeads.{halved_ascends, halved_within, shifted_ascends, shifted_within};
+ghost use Rattle.hop_index.specs.InnerRanges.{head_of};
 
 /// The number of an address of one family: `u32` for IPv4, `Halves` for IPv6.
 pub(crate) trait Stored: Copy + Drop {
@@ -9,9 +9,6 @@ pub(crate) trait Stored: Copy + Drop {
 
     /// The number.
     ghost number: { Self → ℕ };
-
-    /// The first 64 bits of a number. A number of IPv4 has zeros after its 32 bits.
-    ghost head_of: { ℕ → ℕ };
 
     /// Returns the number of these bits.
     fn of_bits(bits: u128) -> Self
@@ -24,7 +21,7 @@ pub(crate) trait Stored: Copy + Drop {
 
     /// Returns the first 64 bits.
     fn head(self) -> u64
-        ensures head { result ≡ head_of (number self) }
+        ensures head { result ≡ head_of width (number self) }
         ensures within { number self < 2 ^ width };
 
     /// Returns whether the number is below the other.
@@ -39,24 +36,12 @@ pub(crate) trait Stored: Copy + Drop {
     fn steps(self, first: Self, shift: u32, most: u32) -> u32
         requires { shift < width }
         ensures { result ≡ min most ((number self - number first) / 2 ^ shift) };
-
-    /// A higher number has no lower first bits.
-    ghost ascends: { (x y : ℕ) → x ≤ y → head_of x ≤ head_of y };
-
-    /// The first bits of each number fit 64 bits.
-    ghost heads: { (x : ℕ) → x < 2 ^ width → head_of x < 2 ^ 64 };
 }
 
 impl Stored for u32 {
     ghost width = { 32 };
 
     ghost number = { λ x. x };
-
-    ghost head_of = { λ x. x * 2 ^ 32 };
-
-    ghost ascends = { shifted_ascends };
-
-    ghost heads = { shifted_within };
 
     #[inline]
     fn of_bits(bits: u128) -> u32 {
@@ -109,12 +94,6 @@ impl Stored for Halves {
     ghost width = { 128 };
 
     ghost number = { λ x. x.high * 2 ^ 64 + x.low };
-
-    ghost head_of = { λ x. x / 2 ^ 64 };
-
-    ghost ascends = { halved_ascends };
-
-    ghost heads = { halved_within };
 
     #[inline]
     fn of_bits(bits: u128) -> Halves {

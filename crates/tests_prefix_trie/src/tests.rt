@@ -8,6 +8,7 @@ mod maps;
 mod rows;
 mod scripts;
 mod set_steps;
+mod shapes;
 mod short_lists;
 mod steps;
 mod walks;

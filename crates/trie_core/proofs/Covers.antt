@@ -17,7 +17,7 @@ use Rattle.trie_core.specs.InnerPlaces.{place_of, place_string, IsBeginMask, IsF
 use Rattle.trie_core.specs.Nodes.{BitMap, Seen}
 use Rattle.trie_core.specs.InnerNodes.{under}
 use Rattle.trie_core.specs.InnerSearch.{IsChild, HasNoChild}
-use Rattle.trie_core.specs.InnerCovers.{is_left, NoneFrom, IsFirstFrom, cover_rest, cover_weight, IsCover}
+use Rattle.trie_core.specs.InnerCovers.{is_left, NoneFrom, IsFirstFrom, cover_rest, cover_weight}
 use Rattle.trie_core.proofs.Strings.{bits_total, bits_same, same, same-Decides, not_same, front}
 use Rattle.ipnet_blocks.proofs.BitStrings.{begins_take, take_begins, begins-under}
 use Rattle.trie_core.proofs.Maps.{get_none}
@@ -87,7 +87,7 @@ module _ {X : Type 0} where
 
 -- ---- what is left from a place on
 
-left_true : (q : List Bool) (n : ℕ) (k : List Bool) → is_left q n k ≡ true → (begins k q ≡ true) × (length k < 5 → n ≤ place_of k)
+pub left_true : (q : List Bool) (n : ℕ) (k : List Bool) → is_left q n k ≡ true → (begins k q ≡ true) × (length k < 5 → n ≤ place_of k)
 left_true q n k e = grind (arith, nat_tests)
 
 left_false : (q : List Bool) (n : ℕ) (k : List Bool) → is_left q n k ≡ false → begins k q ≡ true → (length k < 5) × (place_of k < n)
@@ -163,7 +163,7 @@ module _ {X : Type 0} where
           let u = left_false q n x a t.0 in
           omega (arith, u.1, t.1 u.0, w.from))
 
-  where_rest : (m : BitMap X) {q : List Bool} {n : ℕ} → NoneFrom m q n → where_key bits_cmp (is_left q n) (entries m) ≡ where_key bits_cmp (is_left q 31) (entries m)
+  pub where_rest : (m : BitMap X) {q : List Bool} {n : ℕ} → NoneFrom m q n → where_key bits_cmp (is_left q n) (entries m) ≡ where_key bits_cmp (is_left q 31) (entries m)
   where_rest m {q} {n} w =
       same_entries bits_cmp bits_total bits_same _ _ (is_sorted-where_key bits_cmp (is_left q n) (entries m) (entries_sorted m)) (is_sorted-where_key bits_cmp (is_left q 31) (entries m) (entries_sorted m))
       (λ x. found_where m (is_left q n) x
@@ -184,7 +184,7 @@ module _ {X : Type 0} where
   pub cover_start : (m : BitMap X) (q : List Bool) {trail : List Bool} → trail ≡ [] → under trail (where_key bits_cmp (is_left q 0) (entries m)) ≡ where_key bits_cmp (λ k. begins k q) (entries m)
   cover_start m q e = ap (λ t. under t (where_key bits_cmp (is_left q 0) (entries m))) e ∙ under_none _ ∙ where_same (is_left q 0) (λ k. begins k q) (entries m) (left_all q)
 
-  left_below : (p : List Bool) {m c : BitMap X} → 5 ≤ length p → ((r : List Bool) → get m (take 5 p ++ r) ≡ get c r) → AreBelow p m c (is_left p 31) (is_left (drop 5 p) 0)
+  pub left_below : (p : List Bool) {m c : BitMap X} → 5 ≤ length p → ((r : List Bool) → get m (take 5 p ++ r) ≡ get c r) → AreBelow p m c (is_left p 31) (is_left (drop 5 p) 0)
   left_below p h s = record {
     long = h;
     gets = s;
@@ -210,12 +210,3 @@ module _ {X : Type 0} where
         ∙ (λ i. under (sym e i) (where_key bits_cmp (is_left (sym d i) 0) (entries c.now.entries))),
     omega (arith, ap length d, length-drop 5 p, h),
   )
-
-pub below_cover : {p r trail way : List Bool} {n : ℕ} → IsCover p n trail → 5 ≤ length p → way ≡ trail ++ take 5 p → r ≡ drop 5 p → IsCover r 0 way
-below_cover {p} {r} {trail} {way} w h e d =
-    let l : length way ≡ length trail + 5 = omega (arith, ap length e, length-append trail (take 5 p), (front p h).0) in
-    record {
-      within = omega (arith, l, ap length d, length-drop 5 p, w.within, h);
-      fives = omega (arith, l, w.fives);
-      place = omega arith;
-    }

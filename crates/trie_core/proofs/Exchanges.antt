@@ -29,13 +29,6 @@ module _ {X : Type 0} where
   some_of None h = absurd (cc)
   some_of (Some v) h = (v, refl)
 
-  -- what makes no node fits any room
-  pub in_room : {q : List Bool} {h out : Option X} {may_grow : Bool} {m n : Seen X} {made : ℕ} (room : ℕ) → IsExchanged q h may_grow 0 m made out n → IsExchanged q h may_grow room m made out n
-  in_room room x = record { old = x.old; map = x.map; spares = x.spares; count = x.count; levels = x.levels; within = omega (arith, x.within); grows = x.grows }
-
-  pub same_below : {m : Seen X} (vb at : ℕ) (vs : List X) (cb : ℕ) (cs : List (Seen X)) (e d : Seen X) → viewed vb vs cb cs ≡ m → e ≡ get_or cs at e → d ≡ e → viewed vb vs cb (set cs at d) ≡ m
-  same_below vb at vs cb cs e d s k f = ap (λ c. viewed vb vs cb (set cs at c)) (f ∙ k) ∙ ap (viewed vb vs cb) (set-get_or cs at e) ∙ s
-
   -- in the child on the way, which is e and becomes d
   pub exchanged_below : {vb at : ℕ} {vs : List X} {cb : ℕ} {cs : List (Seen X)} {m : Seen X} {h out : Option X} {may_grow : Bool} {room made : ℕ} {r : List Bool} (q : List Bool) (e d : Seen X) → IsSeen vb vs cb cs m → 5 ≤ length q → IsTaken (child_of q) at cb cs → e ≡ get_or cs at e
       → r ≡ drop 5 q → IsSome h → IsExchanged r h may_grow room e made out d → IsExchanged q h may_grow room m made out (viewed vb vs cb (set cs at d))

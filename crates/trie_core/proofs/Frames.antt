@@ -95,7 +95,7 @@ module _ {X : Type 0} where
     pub levels : length trail + 5 * levels_of cs ≤ 125
     pub keys : KeysWithin 128 (part_rest vs cs trail)
 
-  pub is_frame : {vs : List (ℕ × X)} {cs : List (ℕ × Seen X)} {s : Left X} {w : ℕ} (trail : List Bool) → AreInOrder vs cs → (entries (part_map vs cs), levels_of cs + 1, w) ≡ s → length trail + 5 * s.1 ≤ 130 → KeysWithin 128 (under trail s.0) → IsFrame vs cs trail
+  pub is_frame : {vs : List (ℕ × X)} {cs : List (ℕ × Seen X)} {s : Left X} {w b : ℕ} (trail : List Bool) → AreInOrder vs cs → (entries (part_map vs cs), levels_of cs + 1, w, b) ≡ s → length trail + 5 * s.1 ≤ 130 → KeysWithin 128 (under trail s.0) → IsFrame vs cs trail
   is_frame trail o e l k = record { order = o; levels = omega (arith, l, ap (λ s. s.1) e); keys = subst (λ es. KeysWithin 128 (under trail es)) (sym (ap (λ s. s.0) e)) k }
 
   -- ---- what stands first
@@ -330,13 +330,6 @@ module _ {X : Type 0} where
       let none : first_value {X = X} (named place_string []) (named child_string cs) ≡ false = refl in
       let v = value_next f e first in
       record { within = v.within; rest = v.rest ∙ ap (λ es. (trail ++ place_string place, value) ∷ es) (nothing_next [] trail n none) }
-
--- five bits further down
-pub below_way : (way : List Bool) (place : ℕ) {below : List Bool} → below ≡ way ++ child_string place → (take (length below - 5) below ≡ way) × (length below ≡ length way + 5)
-below_way way place {below} e =
-    let l : length below ≡ length way + 5 = omega (arith, ap length e, length-append way (child_string place), length-child_string place) in
-    let n : length below - 5 ≡ length way = omega (arith, l) in
-    ((λ i. take (n i) (e i)) ∙ take_at way (child_string place) (length way) refl, l)
 
 pub child_bits : (child : ℕ) → prefix_bits 5 child 5 ≡ child_string child
 unfolding child_string

@@ -134,6 +134,21 @@ module _ {X : Type 0} where
       let e : c.entries ≡ empty = same_map bits_total bits_same _ _ (λ r. f r ∙ sym (get-empty bits_cmp r)) in
       marked-root c ∙ ap root_if (ap len e ∙ len-empty bits_cmp X)
 
+  -- a child inside q has a key, or is spare
+  pub no_child_inside : {vb cb : ℕ} {vs : List X} {cs : List (Seen X)} {m : Seen X} (q x : List Bool) (b : Bool) (k : List Bool) → IsSeen vb vs cb cs m
+      → NothingInside m.entries q → NothingInside m.spares q → q ++ b ∷ k ≡ x → length x ≡ 5 → (o : Option (Seen X)) → find nat_cmp (child_of x) (at_places 32 0 cb cs) ≡ o → o ≡ None
+  no_child_inside q x b k s f g z five None d = refl
+  no_child_inside {m = m} q x b k s f g z five (Some c) d =
+      let long : 5 ≤ length x = omega (arith, five) in
+      let whole : take 5 x ≡ x = take_all 5 x (omega (arith, five)) in
+      let c_is = is_child x c s long d in
+      let at = λ (r : List Bool). ap (λ y. y ++ r) (whole ∙ sym z) ∙ append_assoc q (b ∷ k) r in
+      let none : (r : List Bool) → get c.entries r ≡ None = λ r. sym (c_is.gets r) ∙ ap (get m.entries) (at r) ∙ f b (k ++ r) in
+      let root = ap (λ o. marked_get o (drop 5 x)) d ∙ ap (λ y. marked_get (Some c) y) (drop_all 5 x (omega (arith, five))) in
+      let some : get m.spares x ≡ Some tt = sym (spare_at x s long) ∙ root ∙ idle_spare c none in
+      let not = sym some ∙ ap (get m.spares) (sym z) ∙ g b k in
+      cc
+
   pub no_child_word : {vb cm : ℕ} {vs : List X} {cb : ℕ} {cs : List (Seen X)} {m : Seen X} (q : List Bool) → IsSeen vb vs cb cs m → length q < 5 → cm ≡ 2 ^ (child_of q + 32 / 2 ^ length q) - 2 ^ child_of q → NothingInside m.entries q → NothingInside m.spares q → bit_and cb cm ≡ 0
   no_child_word {cm = cm} {cb = cb} {cs = cs} {m = m} q s h e f g = no_bit (bit_and cb cm) (omega (arith, and_le_l cb cm, s.slots.children_below)) (λ i l b.
       let t = both_set cb cm i b in
@@ -146,20 +161,10 @@ module _ {X : Type 0} where
       let o = goes_on q x w (λ z. omega (arith, ap length z, five, h)) in
       held x o.0 o.1 o.2 n l five t.0)
     where
-      by : (x : List Bool) (b : Bool) (k : List Bool) → q ++ b ∷ k ≡ x → length x ≡ 5 → (o : Option (Seen X)) → find nat_cmp (child_of x) (at_places 32 0 cb cs) ≡ o → o ≡ None
-      by x b k z five None d = refl
-      by x b k z five (Some c) d =
-          let long : 5 ≤ length x = omega (arith, five) in
-          let whole : take 5 x ≡ x = take_all 5 x (omega (arith, five)) in
-          let c_is = is_child x c s long d in
-          let none : (r : List Bool) → get c.entries r ≡ None = λ r.
-          sym (c_is.gets r) ∙ ap (λ y. get m.entries (y ++ r)) (whole ∙ sym z) ∙ ap (get m.entries) (append_assoc q (b ∷ k) r) ∙ f b (k ++ r) in
-          let some : get m.spares x ≡ Some tt = sym (spare_at x s long) ∙ ap (λ o. marked_get o (drop 5 x)) d ∙ ap (λ y. marked_get (Some c) y) (drop_all 5 x (omega (arith, five))) ∙ idle_spare c none in
-          let not = sym some ∙ ap (get m.spares) (sym z) ∙ g b k in
-          cc
-
       held : (x : List Bool) (b : Bool) (k : List Bool) → q ++ b ∷ k ≡ x → {i : ℕ} → child_of x ≡ i → i < 32 → length x ≡ 5 → bit_at cb i ≡ 1 → ⊥
-      held x b k z {i} n l five t = some_at i cb cs l t s.slots.children_counted (ap (λ j. find nat_cmp j (at_places 32 0 cb cs)) (sym n) ∙ by x b k z five (find nat_cmp (child_of x) (at_places 32 0 cb cs)) refl)
+      held x b k z {i} n l five t =
+          let none = no_child_inside q x b k s f g z five (find nat_cmp (child_of x) (at_places 32 0 cb cs)) refl in
+          some_at i cb cs l t s.slots.children_counted (ap (λ j. find nat_cmp j (at_places 32 0 cb cs)) (sym n) ∙ none)
 
   -- nothing stands inside q in m
   abbrev pub IsLeaf : Seen X → List Bool → Type 0

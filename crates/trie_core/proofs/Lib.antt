@@ -1,3 +1,13 @@
+pub mod Chains
+pub mod Levels
+pub mod SkippedRemovals
+pub mod Past
+pub mod Skipped
+pub mod Withdrawn
+pub mod Shapes
+pub mod SkippedLent
+pub mod SkippedLeaves
+pub mod SkippedVisits
 pub mod Strings
 pub mod Numbers
 pub mod Aligned
@@ -32,3 +42,5 @@ pub mod Exchanges
 pub mod Removals
 pub mod Staying
 pub mod Covers
+pub mod SkippedCovers
+pub mod Opened

@@ -28,41 +28,50 @@ digits-append n (suc m) q f h =
     ∙ ap (λ bs. bs ++ (f % 2 == 1) ∷ []) (digits-append n m q (f / 2) (omega (arith, d, h)))
     ∙ append_assoc (digits n q) (digits m (f / 2)) ((f % 2 == 1) ∷ [])
 
--- the word of a string with the first m of five bits after its n
-pub record IsLonger (bits n five m r : ℕ) : Type 0 where
+-- the word of a string of n bits with the m bits of a number after it
+pub record IsFollowed (bits n m f r : ℕ) : Type 0 where
   pub fits : r < 2 ^ 128
   pub aligned : IsAligned r (n + m)
-  pub value : digits (n + m) (r / 2 ^ (128 - (n + m))) ≡ digits n (bits / 2 ^ (128 - n)) ++ prefix_bits 5 five m
+  pub value : digits (n + m) (r / 2 ^ (128 - (n + m))) ≡ digits n (bits / 2 ^ (128 - n)) ++ digits m f
 
-pub longer : (bits n five m : ℕ) → IsAligned bits n → IsMasked 5 five m → m ≤ 5 → n + m ≤ 128 → IsLonger bits n five m (bits + five * 2 ^ 123 % 2 ^ 128 / 2 ^ n)
-longer bits n five m a k h l =
+pub followed : (bits n m f : ℕ) → IsAligned bits n → f < 2 ^ m → n + m ≤ 128 → IsFollowed bits n m f (bits + f * 2 ^ (128 - (n + m)) % 2 ^ 128)
+followed bits n m f a fb l =
     let e = 128 - (n + m) in
     let q = bits / 2 ^ (128 - n) in
-    let f = five / 2 ^ (5 - m) in
     let en : n + (128 - n) ≡ 128 = omega (arith, l) in
     let em : 128 - n ≡ m + (128 - (n + m)) = omega (arith, l) in
-    let ef : 5 - m + 123 ≡ 128 - (n + m) + n = omega (arith, l, h) in
-    let e5 : m + (5 - m) ≡ 5 = omega (arith, h) in
     let whole : n + m + (128 - (n + m)) ≡ 128 = omega (arith, l) in
     let qb : bits / 2 ^ (128 - n) < 2 ^ n = shr_below bits n (128 - n) (subst (λ i. bits < 2 ^ i) (sym en) a.masked.below) in
-    let fb : five / 2 ^ (5 - m) < 2 ^ m = shr_below five m (5 - m) (subst (λ i. five < 2 ^ i) (sym e5) k.below) in
-    let low : five * 2 ^ 123 % 2 ^ 128 ≡ five * 2 ^ 123 = let b = k.below in omega (arith, b) in
-    let moved : five * 2 ^ 123 ≡ f * 2 ^ e * 2 ^ n =
-    ap (λ x. x * 2 ^ 123) (sym k.clear) ∙ mul_assoc f (2 ^ (5 - m)) (2 ^ 123) ∙ ap (λ x. f * x) (sym (pow-add 2 (5 - m) 123) ∙ ap (λ i. 2 ^ i) ef ∙ pow-add 2 e n) ∙ sym (mul_assoc f (2 ^ e) (2 ^ n)) in
-    let part : five * 2 ^ 123 % 2 ^ 128 / 2 ^ n ≡ f * 2 ^ e = ap (λ x. x / 2 ^ n) (low ∙ moved) ∙ shl-shr (f * 2 ^ e) n in
     let top : bits ≡ q * 2 ^ m * 2 ^ e = sym a.masked.clear ∙ ap (λ i. q * 2 ^ i) em ∙ ap (λ x. q * x) (pow-add 2 m e) ∙ sym (mul_assoc q (2 ^ m) (2 ^ e)) in
-    let sum : bits + five * 2 ^ 123 % 2 ^ 128 / 2 ^ n ≡ (q * 2 ^ m + f) * 2 ^ e = (λ i. top i + part i) ∙ sym (add-mul (q * 2 ^ m) f (2 ^ e)) in
     let small : (q + 1) * 2 ^ m ≤ 2 ^ n * 2 ^ m = let g : q + 1 ≤ 2 ^ n = omega (arith, qb) in mul-le-mul_right (2 ^ m) g in
     let bound : q * 2 ^ m + f + 1 ≤ 2 ^ (n + m) = omega (arith, small, add-mul q 1 (2 ^ m), one-mul (2 ^ m), fb, pow-add 2 n m) in
     let big : (q * 2 ^ m + f + 1) * 2 ^ e ≤ 2 ^ (n + m) * 2 ^ e = mul-le-mul_right (2 ^ e) bound in
     let up : 2 ^ (n + m) * 2 ^ e ≡ 2 ^ 128 = sym (pow-add 2 (n + m) e) ∙ ap (λ i. 2 ^ i) whole in
     let fits : (q * 2 ^ m + f) * 2 ^ e < 2 ^ 128 = omega (arith, big, add-mul (q * 2 ^ m + f) 1 (2 ^ e), one-mul (2 ^ e), pow_pos e, up) in
+    let part : f * 2 ^ e % 2 ^ 128 ≡ f * 2 ^ e = mod-eq_of_lt (omega (arith, fits, add-mul (q * 2 ^ m) f (2 ^ e))) in
+    let sum : bits + f * 2 ^ e % 2 ^ 128 ≡ (q * 2 ^ m + f) * 2 ^ e = (λ i. top i + part i) ∙ sym (add-mul (q * 2 ^ m) f (2 ^ e)) in
     let back : (q * 2 ^ m + f) * 2 ^ e / 2 ^ e ≡ q * 2 ^ m + f = shl-shr (q * 2 ^ m + f) e in
     rw sum (record {
       fits = fits;
       aligned = record { short = l; masked = record { below = fits; clear = ap (λ x. x * 2 ^ e) back } };
       value = ap (digits (n + m)) back ∙ digits-append n m q f fb;
     })
+
+-- the same with the first m of five bits
+pub longer : (bits n five m : ℕ) → IsAligned bits n → IsMasked 5 five m → m ≤ 5 → n + m ≤ 128 → IsFollowed bits n m (five / 2 ^ (5 - m)) (bits + five * 2 ^ 123 % 2 ^ 128 / 2 ^ n)
+longer bits n five m a k h l =
+    let e = 128 - (n + m) in
+    let f = five / 2 ^ (5 - m) in
+    let ef : 5 - m + 123 ≡ 128 - (n + m) + n = omega (arith, l, h) in
+    let e5 : m + (5 - m) ≡ 5 = omega (arith, h) in
+    let fb : five / 2 ^ (5 - m) < 2 ^ m = shr_below five m (5 - m) (subst (λ i. five < 2 ^ i) (sym e5) k.below) in
+    let low : five * 2 ^ 123 % 2 ^ 128 ≡ five * 2 ^ 123 = let b = k.below in omega (arith, b) in
+    let moved : five * 2 ^ 123 ≡ f * 2 ^ e * 2 ^ n =
+    ap (λ x. x * 2 ^ 123) (sym k.clear) ∙ mul_assoc f (2 ^ (5 - m)) (2 ^ 123) ∙ ap (λ x. f * x) (sym (pow-add 2 (5 - m) 123) ∙ ap (λ i. 2 ^ i) ef ∙ pow-add 2 e n) ∙ sym (mul_assoc f (2 ^ e) (2 ^ n)) in
+    let part : five * 2 ^ 123 % 2 ^ 128 / 2 ^ n ≡ f * 2 ^ e = ap (λ x. x / 2 ^ n) (low ∙ moved) ∙ shl-shr (f * 2 ^ e) n in
+    let small : f * 2 ^ e ≤ f * 2 ^ e * 2 ^ n = le-mul_of_pos_right (f * 2 ^ e) (pow_pos n) in
+    let fits : f * 2 ^ e % 2 ^ 128 ≡ f * 2 ^ e = let b = k.below in mod-eq_of_lt (omega (arith, small, moved, b)) in
+    subst (λ w. IsFollowed bits n m f (bits + w)) (fits ∙ sym part) (followed bits n m f a fb l)
 
 pub as_number : (b : Bool) → bool_byte b ≡ cond b 1 0
 as_number b = grind arith

@@ -1,5 +1,5 @@
 -- The rest of a walk over the entries whose keys are prefixes of a string.
-use Rattle.std.specs.Prelude.{ℕ, ◌+◌, ◌%◌, ◌<◌, ◌≤◌, ◌≡◌, length, nat_lt, Bool, true, not, ◌&&◌, List, [], Option, Some, None}
+use Rattle.std.specs.Prelude.{ℕ, ◌+◌, ◌-◌, ◌<◌, ◌≤◌, ◌≡◌, length, drop, nat_lt, Bool, true, not, ◌&&◌, List, [], Option, Some, None}
 use Rattle.std.specs.Borrow.{Bor}
 use Rattle.std.specs.FinMap.{entries, get}
 use Rattle.std.specs.FinMap.Entries.{where_key}
@@ -34,8 +34,9 @@ module _ {X : Type 0} where
   cover_weight None q = 0
   cover_weight (Some m) q = length q + 1
 
--- the positions that the walk may have
-pub record IsCover (q : List Bool) (n : ℕ) (trail : List Bool) : Type 0 where
-  pub within : length trail + length q ≤ 128
-  pub fives : length trail % 5 ≡ 0
+-- r is the rest of q, which has at most 128 bits, and n is a place or the one after the last
+pub record IsRest (q r : List Bool) (n : ℕ) : Type 0 where
+  pub within : length r ≤ length q
+  pub fits : length q ≤ 128
+  pub rest : drop (length q - length r) q ≡ r
   pub place : n ≤ 31

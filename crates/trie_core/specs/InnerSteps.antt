@@ -12,7 +12,7 @@ use Rattle.trie_core.specs.declared.walk.Step.TheVariants as step
 -- in the node at `way`: s is the entry, or the frame of the node below at its own path, followed by t
 abbrev pub GivesNext : {X G F : Type 0} → (G → X) → (F → Left X) → List Bool → Left X → Next G F → Left X → Type 0
 GivesNext value left way s (next.Entry key v) t = (under way s.0 ≡ (key, value v) ∷ under way t.0) × (t.1 ≤ s.1)
-GivesNext value left way s (Below f below) t = (under way s.0 ≡ under below (left f).0 ++ under way t.0) × (0 < (left f).1) × ((left f).1 < s.1) × (t.1 ≤ s.1) × ((left f).2 + t.2 + 1 < s.2) × (take (length below - 5) below ≡ way) × (length below ≡ length way + 5)
+GivesNext value left way s (Below f below) t = (under way s.0 ≡ under below (left f).0 ++ under way t.0) × (0 < (left f).1) × ((left f).1 < s.1) × (t.1 ≤ s.1) × ((left f).2 + t.2 + 1 < s.2) × (take (length below - (left f).3) below ≡ way) × (length below ≡ length way + (left f).3) × (5 * (left f).1 + (left f).3 ≤ 5 * s.1)
 GivesNext value left way s Nothing t = s.0 ≡ []
 
 -- the levels of the last frame end within 128 bits, and none of its remaining keys is longer than 128 bits
@@ -28,6 +28,7 @@ pub record LastGives {X G F S : Type 0} (value : G → X) (below : F → Left X)
   pub is : gs ≡ front ++ after ∷ []
   pub next : GivesNext value below way (left before) n (left after)
   pub levels : 0 < (left after).1
+  pub bits : (left after).3 ≡ (left before).3
 
 -- the step returned the first entry, or moved on without one, or nothing was left
 abbrev pub Stepped : {X G : Type 0} → (G → X) → List (List Bool × X) × ℕ → Step G → List (List Bool × X) × ℕ → Type 0

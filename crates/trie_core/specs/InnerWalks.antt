@@ -52,12 +52,13 @@ module _ {X : Type 0} where
     pub levels : levels_of cs + 1 ≡ m.levels
     pub nodes : nodes_of cs + 1 ≡ all_nodes m
 
--- the remaining entries, the number of levels of their nodes, and a number that decreases with each node that is opened
+-- the remaining entries, the number of levels of their nodes, a number that decreases with each node that is opened, and the number of
+-- bits by which the path is longer than that of the frame below it on the stack
 abbrev pub Left : Type 0 → Type 0
-Left X = List (List Bool × X) × ℕ × ℕ
+Left X = List (List Bool × X) × ℕ × ℕ × ℕ
 
 abbrev pub left_code : {X : Type 0} → Coded X → Coded (Left X)
-left_code {X} x = code_by (List (List Bool × X) × (ℕ × ℕ)) (coded× (coded_list (coded× (coded_list coded_bool) x)) (coded× coded_ℕ coded_ℕ)) (λ s. (s.0, (s.1, s.2))) (λ p. (p.0, p.1.0, p.1.1)) (λ _. refl)
+left_code {X} x = code_by (List (List Bool × X) × (ℕ × (ℕ × ℕ))) (coded× (coded_list (coded× (coded_list coded_bool) x)) (coded× coded_ℕ (coded× coded_ℕ coded_ℕ))) (λ s. (s.0, (s.1, (s.2, s.3)))) (λ p. (p.0, p.1.0, p.1.1.0, p.1.1.1)) (λ _. refl)
 
 -- the rest of a stack of frames, the last frame first
 abbrev pub walk_rest : {X : Type 0} → List (Left X) → List (List Bool × X)

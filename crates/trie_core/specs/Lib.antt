@@ -1,4 +1,9 @@
 pub mod Bits
+pub mod InnerChains
+pub mod InnerFalls
+pub mod InnerLent
+pub mod InnerOwned
+pub mod InnerWithdrawals
 pub mod Prefixes
 pub mod Nodes
 pub mod Count
@@ -18,4 +23,5 @@ pub mod InnerWalks
 pub mod InnerTrails
 pub mod InnerSteps
 pub mod InnerCovers
+pub mod InnerOpened
 pub mod InnerHeld

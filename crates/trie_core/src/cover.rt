@@ -1,93 +1,125 @@
-//! Walks over the entries whose keys are prefixes of a path. They do not allocate.
-ghost use Rattle.std.specs.Prelude.{◌≡◌, ◌≤◌, [], length, MatchOption, ⊤};
+//! Walks over the entries of a node whose keys are prefixes of a path. They do not allocate.
+ghost use Rattle.std.specs.Prelude.{◌≡◌, ◌+◌, ◌-◌, ◌≤◌, [], length, take, drop, MatchOption, ⊤};
 ghost use Rattle.std.specs.FinMap.{entries};
 ghost use Rattle.std.specs.FinMap.Entries.{where_key};
 ghost use Rattle.std.specs.Iterator.{YieldsFirstBy, item_count};
 ghost use Rattle.ipnet_blocks.specs.BitStrings.{bits_cmp, begins};
-ghost use Rattle.trie_core.specs.InnerCovers.{NoneFrom, IsFirstFrom};
+ghost use Rattle.trie_core.specs.InnerNodes.{under};
+ghost use Rattle.trie_core.specs.InnerCovers.{NoneFrom, IsFirstFrom, is_left};
 ghost use Rattle.trie_core.specs.InnerSteps.{Stepped};
+ghost use Rattle.trie_core.specs.InnerCovers.{IsRest};
 
-use crate::node::Node;
+use crate::node::{Branch, Node};
 use crate::path::Path;
 use crate::slots::{first_place, low_bits, taken_below};
-use crate::tables::{first_child, place_length};
+use crate::tables::place_length;
 use crate::walk::Step;
 use std::alloc::AllocError;
 use std::marker::Model;
 
-/// The rest of a walk over the entries whose keys are prefixes of a path, shortest key first. `trail` is the way to `node`. The walk
-/// still has the entries of `node` from `place` on, and the entries below it on the rest of the path.
+/// The rest of a walk over the entries whose keys are prefixes of a path, shortest key first. `rest` is the part of the path below
+/// `branch`. The walk still has the entries of `branch` from `place` on, and the entries below it on the rest of the path.
 #[derive(Drop)]
 pub struct Cover<'a, T> {
-    node: Option<&'a Node<T>>,
+    branch: Option<&'a Branch<T>>,
     path: Path,
+    rest: Path,
     place: u8,
-    trail: Path,
 }
 
 impl<'a, T> Model for Cover<'a, T> {
-    ghost use Rattle.std.specs.Prelude.{ℕ, List, Bool};
+    ghost use Rattle.std.specs.Prelude.{ℕ, List, Bool, ◌-◌, length, take};
     ghost use Rattle.std.specs.Coded.{coded×, coded_ℕ, coded_list, coded_bool};
-    ghost use Rattle.trie_core.specs.InnerCovers.{cover_rest, cover_weight, IsCover};
+    ghost use Rattle.trie_core.specs.InnerCovers.{cover_rest, cover_weight};
+    ghost use Rattle.trie_core.specs.InnerCovers.{IsRest};
 
     ghost Value = { List (List Bool × T) × ℕ };
 
     ghost coded = { coded× (coded_list (coded× (coded_list coded_bool) T.code)) coded_ℕ };
 
-    ghost view = { λ a. (cover_rest a.node a.path a.place a.trail, cover_weight a.node a.path) };
+    ghost view = { λ a. (cover_rest a.branch a.rest a.place (take (length a.path - length a.rest) a.path), cover_weight a.branch a.rest) };
 
-    ghost invariant = { λ a. IsCover a.path a.place a.trail };
+    ghost invariant = { λ a. IsRest a.path a.rest a.place };
 }
 
-/// The first place, from this one on, whose string is both a key of the node and a prefix of the path, with its value.
-fn beginning_from<'a, T>(node: &'a Node<T>, path: &Path, place: u8) -> Option<(u8, &'a T)>
+/// Returns the first place, from this one on, whose string is both a key of the branch and a prefix of the path, with its value.
+fn beginning_from<'a, T>(branch: &'a Branch<T>, path: &Path, place: u8) -> Option<(u8, &'a T)>
     requires { place ≤ 31 }
-    ensures { MatchOption result (NoneFrom node.now.entries path.now place) (λ r. IsFirstFrom node.now.entries path.now place r.0 r.1.now) }
+    ensures { MatchOption result (NoneFrom branch.now.entries path.now place) (λ r. IsFirstFrom branch.now.entries path.now place r.0 r.1.now) }
 {
-    let met = node.value_bits & path.beginnings();
+    let met = branch.value_bits & path.beginnings();
     let found = met - low_bits(met, place);
     if found == 0 {
         return None;
     }
     let next = first_place(found);
-    let at = taken_below(node.value_bits, next);
-    Some((next, &node.values[at]))
+    let at = taken_below(branch.value_bits, next);
+    Some((next, branch.body.value(at)))
+}
+
+/// Returns the first `len` bits of the path.
+#[inline]
+fn front(path: &Path, len: u8) -> Path
+    requires within { len ≤ length path.now }
+    requires fits { length path.now ≤ 128 }
+    ensures { result ≡ take len path.now }
+{
+    Path::new(path.to_bits(), len)
 }
 
 impl<'a, T> Cover<'a, T> {
-    /// Walks over the entries of a node whose keys are prefixes of a path, the path itself included.
+    /// Makes a walk over the entries of a node whose keys are prefixes of a path, the path itself included.
     pub fn new(node: &'a Node<T>, path: Path) -> Cover<'a, T>
         requires { length path ≤ 128 }
         ensures { result.0 ≡ where_key bits_cmp (λ k. begins k path) (entries node.now.entries) }
     {
+        let whole = path.copied();
+        Cover::below(node, whole, path)
+    }
+
+    /// Makes a walk over the entries of the node that a path leads to; `rest` is the part of the path below the node.
+    fn below(node: &'a Node<T>, path: Path, rest: Path) -> Cover<'a, T>
+        requires { IsRest path rest 0 }
+        ensures entries { result.0 ≡ under (take (length path - length rest) path) (where_key bits_cmp (is_left rest 0) (entries node.now.entries)) }
+        ensures weight { result.1 ≤ length rest + 1 }
+    {
+        if !rest.starts(node.skip, node.levels) {
+            return Cover {
+                branch: None,
+                path,
+                rest,
+                place: 0,
+            };
+        }
         Cover {
-            node: Some(node),
+            branch: Some(&node.branch),
             path,
+            rest: rest.past(node.levels),
             place: 0,
-            trail: Path::new(0, 0),
         }
     }
 
-    /// Returns the next entry of the node, or moves to the node below.
+    /// Returns the next entry of the branch, or moves to the branch below.
     fn step(&mut self) -> Step<&'a T>
         ensures { Stepped (λ v. v.now) self.old result self.new }
     {
-        let Some(node) = self.node else {
+        let Some(branch) = self.branch else {
             return Step::Done;
         };
-        if let Some((place, value)) = beginning_from(node, &self.path, self.place) {
+        if let Some((place, value)) = beginning_from(branch, &self.rest, self.place) {
             self.place = place + 1;
-            let key = self.trail.with(first_child(place), place_length(place));
+            let depth = self.path.len() - self.rest.len();
+            let key = front(&self.path, depth + place_length(place));
             return Step::Entry(key, value);
         }
-        if self.path.is_short() {
-            self.node = None;
+        if self.rest.is_short() {
+            self.branch = None;
             return Step::Moved;
         }
-        self.node = node.child(&self.path);
-        self.trail = self.trail.with(self.path.five(), 5);
-        self.path = self.path.rest();
-        self.place = 0;
+        match branch.child(&self.rest) {
+            None => self.branch = None,
+            Some(node) => *self = Cover::below(node, self.path.copied(), self.rest.rest()),
+        }
         Step::Moved
     }
 }
@@ -97,13 +129,13 @@ impl<'a, T> Clone for Cover<'a, T> {
 
     ghost is_infallible = { λ _. ⊤ };
 
-    /// A copy of the walk from its current position. Does not allocate.
+    /// Returns a copy of the walk from its current position. Does not allocate.
     fn clone(&self) -> Result<Cover<'a, T>, AllocError> {
         Ok(Cover {
-            node: self.node,
+            branch: self.branch,
             path: self.path.clone()?,
+            rest: self.rest.clone()?,
             place: self.place,
-            trail: self.trail.clone()?,
         })
     }
 }
@@ -113,10 +145,10 @@ impl<'a, T> Default for Cover<'a, T> {
 
     fn default() -> Cover<'a, T> {
         Cover {
-            node: None,
+            branch: None,
             path: Path::new(0, 0),
+            rest: Path::new(0, 0),
             place: 0,
-            trail: Path::new(0, 0),
         }
     }
 }

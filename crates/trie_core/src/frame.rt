@@ -58,12 +58,17 @@ pub trait Frame<T>: Drop {
         ensures levels { (left result).1 ≤ (seen node).levels }
         ensures positive { 0 < (left result).1 };
 
+    /// Returns the number of bits by which its path is longer than that of the frame below it on the stack.
+    fn bits(&self) -> u8
+        ensures { result ≡ (left self.now).3 };
+
     /// Takes the first part out of the frame of the node at `way`.
     fn next(&mut self, way: &Path) -> Next<Self::Given, Self>
         requires levels { length way.now + 5 * (left self.old).1 ≤ 130 }
         requires keys { KeysWithin 128 (under way.now (left self.old).0) }
         ensures next { GivesNext value left way.now (left self.old) result (left self.new) }
-        ensures levels { 0 < (left self.new).1 };
+        ensures levels { 0 < (left self.new).1 }
+        ensures bits { (left self.new).3 ≡ (left self.old).3 };
 }
 
 /// A stack of at most 26 frames.

@@ -3,15 +3,15 @@ ghost use Rattle.std.specs.Prelude.{◌≡◌, ℕ, ◌+◌, ◌*◌, ◌<◌, �
 ghost use Rattle.std.specs.Borrow.{sem};
 ghost use Rattle.std.specs.Option.{IsSome};
 ghost use Rattle.std.specs.FinMap as map;
-ghost use Rattle.trie_core.specs.InnerLending.{node_lends};
+ghost use Rattle.trie_core.specs.InnerLending.{node_lends, branch_lends};
 
-use crate::node::Node;
+use crate::node::{Branch, Node};
 use crate::path::Path;
 use crate::slots::slot;
 use std::marker::PhantomData;
 
-/// A search for a value that goes down as many levels as the type says. The checker doesn't prove a loan made by a recursion or a loop,
-/// but it proves one type for each depth.
+/// A search for a value that goes down as many branches as the type says. The checker doesn't prove a loan made by a recursion or a
+/// loop, but it proves one type for each depth.
 pub(crate) trait Descent {
     ghost levels: { ℕ };
 
@@ -22,18 +22,20 @@ pub(crate) trait Descent {
         ensures value { map.get node.old.entries path.now ≡ Some result.now };
 }
 
-/// The value is in the node itself.
+/// The value is in the branch of the node itself.
 pub(crate) struct Here {}
 
 impl Descent for Here {
     ghost levels = { 0 };
 
     fn value_mut<'a, T>(node: &'a mut Node<T>, path: &Path) -> &'a mut T {
-        node.value_here(path)
+        let rest = path.past(node.levels);
+        let branch = &mut node.branch;
+        branch.value_here(&rest)
     }
 }
 
-/// The value is one level further down than `D` searches.
+/// The value is one branch further down than `D` searches.
 pub(crate) struct Below<D: Descent> {
     way: PhantomData<D>,
 }
@@ -42,20 +44,22 @@ impl<D: Descent> Descent for Below<D> {
     ghost levels = { D.levels + 1 };
 
     fn value_mut<'a, T>(node: &'a mut Node<T>, path: &Path) -> &'a mut T {
-        if path.is_short() {
-            return node.value_here(path);
+        let rest = path.past(node.levels);
+        let branch = &mut node.branch;
+        if rest.is_short() {
+            return branch.value_here(&rest);
         }
-        let Some(at) = slot(node.child_bits, path.five()) else {
+        let Some(at) = slot(branch.child_bits, rest.five()) else {
             unreachable!()
         };
-        let child = &mut node.children[at];
-        D::value_mut(child, &path.rest())
+        let child = branch.body.child_mut(at);
+        D::value_mut(child, &rest.rest())
     }
 }
 
 type Five<D> = Below<Below<Below<Below<Below<D>>>>>;
 
-/// 25 levels, enough for 128 bits.
+/// 25 branches below the first, enough for 128 bits.
 type Whole = Five<Five<Five<Five<Five<Here>>>>>;
 
 impl<T> Node<T> {
@@ -68,17 +72,19 @@ impl<T> Node<T> {
     {
         Whole::value_mut(self, path)
     }
+}
 
+impl<T> Branch<T> {
     /// Returns a mutable reference to the value at a stored key of fewer than five bits.
     fn value_here(&mut self, path: &Path) -> &mut T
         requires short { length path.now < 5 }
         requires stored { IsSome (map.get self.old.entries path.now) }
-        ensures* writes_back { sem 𝓛 (node_lends T.row self.entry path.now result) }
+        ensures* writes_back { sem 𝓛 (branch_lends T.row self.entry path.now result) }
         ensures value { map.get self.old.entries path.now ≡ Some result.now }
     {
         let Some(at) = slot(self.value_bits, path.place()) else {
             unreachable!()
         };
-        &mut self.values[at]
+        self.body.value_mut(at)
     }
 }

@@ -1,157 +1,250 @@
-//! Frames of borrowed nodes.
-ghost use Rattle.std.specs.Prelude.{◌≡◌, ◌+◌, ◌*◌, ◌<◌, ◌≤◌, List, Bool, [], ◌∷◌, count_ones, length, take, not, nat_lt, MatchOption, ⊤};
+//! Frames of borrowed nodes. The next frame below a child is that of its branch: the skipped levels above it have no frames.
+ghost use Rattle.std.specs.Prelude.{◌≡◌, ◌+◌, ◌*◌, ◌<◌, ◌≤◌, [], ◌∷◌, MatchOption, length, take, not, nat_lt, ⊤, List, Bool, count_ones};
 ghost use Rattle.std.specs.Ordering.{nat_cmp};
 ghost use Rattle.std.specs.FinMap.{entries};
 ghost use Rattle.std.specs.FinMap.Entries.{where_key};
 ghost use Rattle.ipnet_blocks.specs.BitStrings.{bits_cmp};
 ghost use Rattle.trie_core.specs.Bits.{is_from};
-ghost use Rattle.trie_core.specs.InnerPlaces.{place_of, child_of, placed, first_place_of};
+ghost use Rattle.trie_core.specs.InnerPlaces.{place_of, child_of, first_place_of};
 ghost use Rattle.trie_core.specs.InnerNodes.{under};
+ghost use Rattle.trie_core.specs.InnerSearch.{IsChild, HasNoChild};
 ghost use Rattle.trie_core.specs.InnerWalks.{AreParts, KeysWithin, is_past};
+ghost use Rattle.trie_core.specs.InnerLent.{lent_children};
+ghost use Rattle.trie_core.specs.InnerOpened.{IsOpened};
 
 use crate::frame::{Frame, FrameStack, LentStack, Next, next_of_last, value_first};
-use crate::node::Node;
+use crate::lent_places::LentPlaces;
+use crate::node::{Branch, Node};
 use crate::path::Path;
-use crate::slots::{first_place, low_bits};
-use crate::tables::{bit, first_child, place_length};
+use crate::slots::low_bits;
+use crate::tables::{first_child, place_length};
 use arrayvec::ArrayVec;
+use shape::Items;
 use std::alloc::AllocError;
 use std::marker::Model;
 
-/// Borrowed items that are left, each at a place below 32. The bits of a word mark the places, and the items are in the order of
-/// their places.
+/// A borrowed node: the skipped levels that are left, and the branch below them.
 #[derive(Drop)]
-struct LentPlaces<'a, X> {
-    taken: u32,
-    items: &'a [X],
+pub struct LentNode<'a, T> {
+    skip: u32,
+    levels: u8,
+    branch: &'a Branch<T>,
 }
 
-impl<'a, X> Model for LentPlaces<'a, X> {
-    ghost use Rattle.std.specs.Prelude.{List, ℕ, ◌≡◌, length, count_ones};
-    ghost use Rattle.trie_core.specs.InnerPlaces.{placed};
+impl<'a, T> Model for LentNode<'a, T> {
+    ghost use Rattle.std.specs.Prelude.{◌*◌, ◌≤◌, ◌<◌, ◌^◌};
+    ghost use Rattle.trie_core.specs.Nodes.{Seen, code};
+    ghost use Rattle.trie_core.specs.InnerChains.{chain, skipped};
 
-    ghost Value = { List (ℕ × X) };
+    ghost Value = { Seen T };
 
-    ghost view = { λ a. placed a.taken a.items.now };
+    ghost coded = { code T.code };
 
-    ghost invariant = { λ a. count_ones a.taken ≡ length a.items.now };
+    ghost view = { λ a. chain a.levels (skipped a.levels a.skip) a.branch.now };
+
+    ghost invariant = { λ a. (a.levels ≤ 5) × (a.skip < 2 ^ (5 * a.levels)) };
 }
 
-impl<'a, X> Clone for LentPlaces<'a, X> {
-    ghost is_clone = { λ p r. r ≡ p };
+impl<'a, T> LentNode<'a, T> {
+    /// Borrows a node with all its skipped levels.
+    #[inline]
+    pub(crate) fn new(node: &'a Node<T>) -> LentNode<'a, T>
+        ensures { result ≡ node.now }
+    {
+        LentNode {
+            skip: node.skip,
+            levels: node.levels,
+            branch: &node.branch,
+        }
+    }
 
-    ghost is_infallible = { λ _. ⊤ };
+    /// Borrows the same node once more.
+    #[inline]
+    fn again(&self) -> LentNode<'a, T>
+        ensures { result ≡ self.now }
+    {
+        LentNode {
+            skip: self.skip,
+            levels: self.levels,
+            branch: self.branch,
+        }
+    }
 
-    fn clone(&self) -> Result<LentPlaces<'a, X>, AllocError> {
-        Ok(LentPlaces {
-            taken: self.taken,
-            items: self.items,
+    /// Returns the node below the first five bits.
+    #[inline]
+    pub(crate) fn child(&self, path: &Path) -> Option<LentNode<'a, T>>
+        requires { 5 ≤ length path.now }
+        ensures { MatchOption result (HasNoChild path.now self.now) (λ c. IsChild path.now self.now c) }
+    {
+        if self.levels == 0 {
+            let child = self.branch.child(path)?;
+            return Some(LentNode::new(child));
+        }
+        let below = self.levels - 1;
+        if ((self.skip >> (5 * below)) % 32) as u8 != path.five() {
+            return None;
+        }
+        Some(LentNode {
+            skip: low_bits(self.skip, 5 * below),
+            levels: below,
+            branch: self.branch,
         })
     }
-}
 
-impl<'a, X> Default for LentPlaces<'a, X> {
-    ghost is_default = { λ p. p ≡ [] };
-
-    fn default() -> LentPlaces<'a, X> {
-        LentPlaces {
-            taken: 0,
-            items: &[],
-        }
-    }
-}
-
-impl<'a, X> LentPlaces<'a, X> {
-    /// The items of a list at the places that a word marks.
+    /// Returns the values and the children of the node.
     #[inline]
-    fn new(taken: u32, items: &'a [X]) -> LentPlaces<'a, X>
-        requires { count_ones taken ≡ length items.now }
-        ensures { result ≡ placed taken items.now }
+    fn parts(&self) -> (LentPlaces<'a, T>, LentChildren<'a, T>)
+        ensures { AreParts self.now result.0 (lent_children result.1) }
     {
-        LentPlaces { taken, items }
+        if self.levels == 0 {
+            return branch_parts(self.branch);
+        }
+        let below = self.levels - 1;
+        let child = ((self.skip >> (5 * below)) % 32) as u8;
+        let node = LentNode {
+            skip: low_bits(self.skip, 5 * below),
+            levels: below,
+            branch: self.branch,
+        };
+        (LentPlaces::none(), LentChildren::One(child, node))
     }
 
-    /// The first place.
+    /// Returns the frame of the node's branch, and the path to it. The node is the child of this number below the node at `way`.
+    #[inline]
+    fn opened(&self, child: u8, way: &Path) -> (LentFrame<'a, T>, Path)
+        requires child { child < 32 }
+        requires levels { length way.now + 5 * self.now.levels ≤ 125 }
+        ensures { IsOpened way.now child self.now result.0 result.1 }
+    {
+        let (values, children) = branch_parts(self.branch);
+        let below = way.down(child, self.skip, self.levels);
+        let bits = 5 * self.levels + 5;
+        let frame = LentFrame {
+            values,
+            children,
+            bits,
+        };
+        (frame, below)
+    }
+}
+
+/// Returns the values and the children of a branch.
+#[inline]
+fn branch_parts<'a, T>(branch: &'a Branch<T>) -> (LentPlaces<'a, T>, LentChildren<'a, T>)
+    ensures { AreParts branch.now result.0 (lent_children result.1) }
+{
+    let values = LentPlaces::new(branch.value_bits, branch.body.values());
+    let nodes = Items::Many(branch.body.children());
+    let children = LentPlaces::new(branch.child_bits, nodes);
+    (values, LentChildren::List(children))
+}
+
+/// The remaining children: those of a branch, or the one below a skipped level, with its place.
+#[derive(Drop)]
+pub(crate) enum LentChildren<'a, T> {
+    List(LentPlaces<'a, Node<T>>),
+    One(u8, LentNode<'a, T>),
+}
+
+impl<'a, T> LentChildren<'a, T> {
+    /// Returns the first place.
     #[inline]
     fn first_place(&self) -> Option<u8>
-        ensures { result ≡ first_place_of self.now }
+        ensures { result ≡ first_place_of (lent_children self.now) }
     {
-        if self.taken == 0 {
-            return None;
+        match self {
+            LentChildren::List(places) => places.first_place(),
+            LentChildren::One(place, _) => Some(*place),
         }
-        Some(first_place(self.taken))
     }
 
-    /// The item and its place, if there is only one.
+    /// Removes and returns the first child, with its place.
     #[inline]
-    fn only(&self) -> Option<(u8, &'a X)>
-        ensures { MatchOption result ⊤ (λ p. self.now ≡ (p.0, p.1.now) ∷ []) }
+    fn next(&mut self) -> Option<(u8, LentNode<'a, T>)>
+        ensures { MatchOption result ((lent_children self.old ≡ []) × (lent_children self.new ≡ [])) (λ p. lent_children self.old ≡ (p.0, p.1) ∷ lent_children self.new) }
     {
-        let (only, others) = self.items.split_first()?;
-        if others.len() > 0 {
-            return None;
+        match self {
+            LentChildren::List(places) => {
+                let (place, node) = places.next()?;
+                Some((place, LentNode::new(node)))
+            }
+            LentChildren::One(place, _) => {
+                let place = *place;
+                let LentChildren::One(_, node) = self else {
+                    unreachable!()
+                };
+                let node = node.again();
+                *self = LentChildren::List(LentPlaces::none());
+                Some((place, node))
+            }
         }
-        Some((first_place(self.taken), only))
     }
 
-    /// Takes out the first item, with its place.
+    /// Returns the same places.
     #[inline]
-    fn next(&mut self) -> Option<(u8, &'a X)>
-        ensures { MatchOption result ((self.old ≡ []) × (self.new ≡ [])) (λ p. self.old ≡ (p.0, p.1.now) ∷ self.new) }
+    fn again(&self) -> LentChildren<'a, T>
+        ensures { lent_children result ≡ lent_children self.now }
     {
-        let Some((first, rest)) = self.items.split_first() else {
-            return None;
-        };
-        let place = first_place(self.taken);
-        self.taken -= bit(place);
-        self.items = rest;
-        Some((place, first))
-    }
-
-    /// The items at this place and after it.
-    fn from(self, place: u8) -> LentPlaces<'a, X>
-        requires { place ≤ 32 }
-        ensures { result ≡ where_key nat_cmp (λ k. not (nat_lt k place)) self.entry }
-    {
-        let passed = low_bits(self.taken, place);
-        LentPlaces {
-            taken: self.taken - passed,
-            items: self.items.split_at(passed.count_ones() as usize).1,
+        match self {
+            LentChildren::List(places) => LentChildren::List(places.again()),
+            LentChildren::One(place, node) => LentChildren::One(*place, node.again()),
         }
     }
 
-    /// The items at places below this one.
-    fn before(self, place: u8) -> LentPlaces<'a, X>
+    /// Returns the children at this place and after it.
+    fn from(self, place: u8) -> LentChildren<'a, T>
         requires { place ≤ 32 }
-        ensures { result ≡ where_key nat_cmp (λ k. nat_lt k place) self.entry }
+        ensures { lent_children result ≡ where_key nat_cmp (λ k. not (nat_lt k place)) (lent_children self.entry) }
     {
-        let taken = low_bits(self.taken, place);
-        LentPlaces {
-            taken,
-            items: self.items.split_at(taken.count_ones() as usize).0,
+        match self {
+            LentChildren::List(places) => LentChildren::List(places.from(place)),
+            LentChildren::One(at, node) => {
+                if at < place {
+                    return LentChildren::List(LentPlaces::none());
+                }
+                LentChildren::One(at, node)
+            }
+        }
+    }
+
+    /// Returns the children at places below this one.
+    fn before(self, place: u8) -> LentChildren<'a, T>
+        requires { place ≤ 32 }
+        ensures { lent_children result ≡ where_key nat_cmp (λ k. nat_lt k place) (lent_children self.entry) }
+    {
+        match self {
+            LentChildren::List(places) => LentChildren::List(places.before(place)),
+            LentChildren::One(at, node) => {
+                if at >= place {
+                    return LentChildren::List(LentPlaces::none());
+                }
+                LentChildren::One(at, node)
+            }
         }
     }
 }
 
-/// The rest of one borrowed node.
+/// The rest of one node. `bits` is the number of bits by which its path is longer than that of the frame below it.
 #[derive(Drop)]
 pub struct LentFrame<'a, T> {
     values: LentPlaces<'a, T>,
-    children: LentPlaces<'a, Node<T>>,
+    children: LentChildren<'a, T>,
+    bits: u8,
 }
 
 impl<'a, T> Model for LentFrame<'a, T> {
     ghost use Rattle.std.specs.Prelude.{◌+◌, ◌*◌};
     ghost use Rattle.std.specs.FinMap.{entries};
     ghost use Rattle.trie_core.specs.InnerWalks.{part_map, levels_of, nodes_of, AreInOrder, Left, left_code};
+    ghost use Rattle.trie_core.specs.InnerLent.{lent_children};
 
     ghost Value = { Left T };
 
     ghost coded = { left_code T.code };
 
-    ghost view = { λ a. (entries (part_map a.values a.children), levels_of a.children + 1, 2 * nodes_of a.children) };
+    ghost view = { λ a. (entries (part_map a.values (lent_children a.children)), levels_of (lent_children a.children) + 1, 2 * nodes_of (lent_children a.children), a.bits) };
 
-    ghost invariant = { λ a. AreInOrder a.values a.children };
+    ghost invariant = { λ a. AreInOrder a.values (lent_children a.children) };
 }
 
 impl<'a, T> Clone for LentFrame<'a, T> {
@@ -161,8 +254,9 @@ impl<'a, T> Clone for LentFrame<'a, T> {
 
     fn clone(&self) -> Result<LentFrame<'a, T>, AllocError> {
         Ok(LentFrame {
-            values: self.values.clone()?,
-            children: self.children.clone()?,
+            values: self.values.again(),
+            children: self.children.again(),
+            bits: self.bits,
         })
     }
 }
@@ -171,21 +265,11 @@ impl<'a, T> Clone for LentFrame<'a, T> {
 impl<'a, T> Default for LentFrame<'a, T> {
     fn default() -> LentFrame<'a, T> {
         LentFrame {
-            values: LentPlaces::default(),
-            children: LentPlaces::default(),
+            values: LentPlaces::none(),
+            children: LentChildren::List(LentPlaces::none()),
+            bits: 5,
         }
     }
-}
-
-/// The values and the children of a node, with their places.
-#[inline]
-fn parts<'a, T>(node: &'a Node<T>) -> (LentPlaces<'a, T>, LentPlaces<'a, Node<T>>)
-    ensures { AreParts node.now result.0 result.1 }
-{
-    (
-        LentPlaces::new(node.value_bits, node.values.as_slice()),
-        LentPlaces::new(node.child_bits, node.children.as_slice()),
-    )
 }
 
 /// The first place after those of the prefixes of five bits.
@@ -214,64 +298,78 @@ impl<'a, T> LentFrame<'a, T> {
     }
 
     /// The keys of a node that come after all keys that begin with the first five bits of a path.
-    pub(crate) fn past(node: &'a Node<T>, path: &Path) -> LentFrame<'a, T>
+    pub(crate) fn past(node: &LentNode<'a, T>, path: &Path) -> LentFrame<'a, T>
         requires long { 5 ≤ length path.now }
         ensures rest { result.0 ≡ where_key bits_cmp (is_past (take 5 path.now)) (entries node.now.entries) }
         ensures levels { result.1 ≤ node.now.levels }
         ensures positive { 0 < result.1 }
+        ensures bits { result.3 ≡ 5 }
     {
-        let (values, children) = parts(node);
+        let (values, children) = node.parts();
         let five = path.five();
         LentFrame {
             values: values.from(after_beginnings(five)),
             children: children.from(five + 1),
+            bits: 5,
         }
     }
 
     /// The keys of a node that come after a string of fewer than five bits; the string itself too if `inclusive`.
-    pub(crate) fn onwards(node: &'a Node<T>, path: &Path, inclusive: bool) -> LentFrame<'a, T>
+    pub(crate) fn onwards(node: &LentNode<'a, T>, path: &Path, inclusive: bool) -> LentFrame<'a, T>
         requires short { length path.now < 5 }
         ensures rest { result.0 ≡ where_key bits_cmp (is_from path.now inclusive) (entries node.now.entries) }
         ensures levels { result.1 ≤ node.now.levels }
         ensures positive { 0 < result.1 }
+        ensures bits { result.3 ≡ 5 }
     {
-        let (values, children) = parts(node);
+        let (values, children) = node.parts();
         let place = path.place();
         LentFrame {
             values: values.from(if inclusive { place } else { place + 1 }),
             children: children.from(path.five()),
+            bits: 5,
         }
     }
 }
 
 impl<'a, T> Frame<T> for LentFrame<'a, T> {
-    type Node = &'a Node<T>;
+    type Node = LentNode<'a, T>;
 
     type Given = &'a T;
 
-    ghost seen = { λ n. n.now };
+    ghost seen = { λ n. n };
 
     ghost value = { λ v. v.now };
 
     ghost left = { λ f. f };
 
     #[inline]
-    fn child(node: &'a Node<T>, path: &Path) -> Option<&'a Node<T>> {
+    fn bits(&self) -> u8 {
+        self.bits
+    }
+
+    #[inline]
+    fn child(node: LentNode<'a, T>, path: &Path) -> Option<LentNode<'a, T>> {
         node.child(path)
     }
 
     #[inline]
-    fn whole(node: &'a Node<T>) -> LentFrame<'a, T> {
-        let (values, children) = parts(node);
-        LentFrame { values, children }
+    fn whole(node: LentNode<'a, T>) -> LentFrame<'a, T> {
+        let (values, children) = node.parts();
+        LentFrame {
+            values,
+            children,
+            bits: 5,
+        }
     }
 
-    fn inside(node: &'a Node<T>, path: &Path) -> LentFrame<'a, T> {
-        let (values, children) = parts(node);
+    fn inside(node: LentNode<'a, T>, path: &Path) -> LentFrame<'a, T> {
+        let (values, children) = node.parts();
         let (len, place, child) = (path.len(), path.place(), path.five());
         LentFrame {
             values: values.from(place).before(place + (31 >> len)),
             children: children.from(child).before(child + (32 >> len)),
+            bits: 5,
         }
     }
 
@@ -287,8 +385,7 @@ impl<'a, T> Frame<T> for LentFrame<'a, T> {
         let Some((child, node)) = self.children.next() else {
             return Next::Nothing;
         };
-        let (values, children) = parts(node);
-        let (below, way) = (LentFrame { values, children }, way.with(child, 5));
+        let (below, way) = node.opened(child, way);
         if let Some((key, value)) = below.only(&way) {
             return Next::Entry(key, value);
         }

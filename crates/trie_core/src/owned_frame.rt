@@ -1,20 +1,26 @@
-//! Frames of owned nodes. They do not allocate, and drop the entries that the walk hasn't returned.
-ghost use Rattle.std.specs.Prelude.{◌≡◌, ◌<◌, ◌≤◌, [], ◌∷◌, count_ones, length, take, drop, not, nat_lt, MatchOption};
+//! Frames of owned nodes. They do not allocate, and the entries that a walk has not returned are dropped with them.
+ghost use Rattle.std.specs.Prelude.{◌≡◌, ◌+◌, ◌*◌, ◌<◌, ◌≤◌, [], ◌∷◌, MatchOption, length, count_ones, not, nat_lt, take, drop};
 ghost use Rattle.std.specs.Ordering.{nat_cmp};
 ghost use Rattle.std.specs.FinMap.Entries.{where_key};
-ghost use Rattle.short_vec.specs.Lists.{short_items};
+ghost use Rattle.shape.specs.KeptValues.{kept_values};
 ghost use Rattle.trie_core.specs.InnerPlaces.{placed, first_place_of};
-ghost use Rattle.trie_core.specs.InnerHeld.{held};
+ghost use Rattle.trie_core.specs.InnerSearch.{IsChild, HasNoChild};
 ghost use Rattle.trie_core.specs.InnerWalks.{AreParts};
+ghost use Rattle.trie_core.specs.InnerOpened.{IsOpened};
+ghost use Rattle.trie_core.specs.InnerOwned.{owned_places};
+ghost use Rattle.short_vec.specs.Lists.{short_items};
+ghost use Rattle.trie_core.specs.InnerHeld.{held};
 
 use crate::frame::{Frame, FrameStack, Next, next_of_last, value_first};
-use crate::node::Node;
+use crate::node::{Branch, Node};
 use crate::path::Path;
 use crate::slots::{first_place, low_bits, slot};
 use crate::tables::{bit, first_child, place_length};
 use arrayvec::ArrayVec;
+use shape::Kept;
 use short_vec::ShortVec;
 use std::marker::Model;
+use std::mem;
 use std::vec::IntoIter;
 
 /// Items that are left, each at a place below 32. The bits of a word mark the places, and the items are in the order of their places.
@@ -141,51 +147,219 @@ impl<X: Drop> Places<X> {
     }
 }
 
-/// The rest of one owned node.
+/// The remaining items at places: one, or those of a list.
+#[derive(Drop)]
+enum OwnedPlaces<X> {
+    One(u8, X),
+    List(Places<X>),
+}
+
+impl<X> OwnedPlaces<X> {
+    /// Makes an empty list.
+    fn none() -> OwnedPlaces<X>
+        ensures { owned_places result ≡ [] }
+    {
+        OwnedPlaces::List(Places::default())
+    }
+
+    /// Returns the first place.
+    fn first_place(&self) -> Option<u8>
+        ensures { result ≡ first_place_of (owned_places self.now) }
+    {
+        match self {
+            OwnedPlaces::One(place, _) => Some(*place),
+            OwnedPlaces::List(places) => places.first_place(),
+        }
+    }
+
+    /// Makes a list of the values of a branch at the places of a word.
+    fn new(taken: u32, values: Kept<X>) -> OwnedPlaces<X>
+        requires { count_ones taken ≡ length (kept_values values) }
+        ensures { owned_places result ≡ placed taken (kept_values values) }
+    {
+        match values {
+            Kept::One(value) => OwnedPlaces::One(first_place(taken), value),
+            Kept::Many(values) => OwnedPlaces::List(Places::new(taken, values)),
+        }
+    }
+}
+
+impl<X: Drop> OwnedPlaces<X> {
+    /// Removes and returns the first item, with its place.
+    fn next(&mut self) -> Option<(u8, X)>
+        ensures { MatchOption result ((owned_places self.old ≡ []) × (owned_places self.new ≡ [])) (λ p. owned_places self.old ≡ p ∷ owned_places self.new) }
+    {
+        if let OwnedPlaces::List(places) = self {
+            return places.next();
+        }
+        let OwnedPlaces::One(place, item) = mem::replace(self, OwnedPlaces::none()) else {
+            unreachable!()
+        };
+        Some((place, item))
+    }
+
+    /// Returns the items at this place and after it. The others are dropped.
+    fn from(self, place: u8) -> OwnedPlaces<X>
+        requires { place ≤ 32 }
+        ensures { owned_places result ≡ where_key nat_cmp (λ k. not (nat_lt k place)) (owned_places self) }
+    {
+        match self {
+            OwnedPlaces::List(places) => OwnedPlaces::List(places.from(place)),
+            OwnedPlaces::One(at, item) => {
+                if at < place {
+                    return OwnedPlaces::none();
+                }
+                OwnedPlaces::One(at, item)
+            }
+        }
+    }
+
+    /// Returns the items at places below this one. The others are dropped.
+    fn before(self, place: u8) -> OwnedPlaces<X>
+        requires { place ≤ 32 }
+        ensures { owned_places result ≡ where_key nat_cmp (λ k. nat_lt k place) (owned_places self) }
+    {
+        match self {
+            OwnedPlaces::List(places) => OwnedPlaces::List(places.before(place)),
+            OwnedPlaces::One(at, item) => {
+                if at >= place {
+                    return OwnedPlaces::none();
+                }
+                OwnedPlaces::One(at, item)
+            }
+        }
+    }
+}
+
+/// The rest of one node. `bits` is the number of bits by which its path is longer than that of the frame below it.
 #[derive(Drop)]
 pub struct OwnedFrame<T> {
-    values: Places<T>,
-    children: Places<Node<T>>,
+    values: OwnedPlaces<T>,
+    children: OwnedPlaces<Node<T>>,
+    bits: u8,
 }
 
 impl<T> Model for OwnedFrame<T> {
     ghost use Rattle.std.specs.Prelude.{◌+◌, ◌*◌};
     ghost use Rattle.std.specs.FinMap.{entries};
     ghost use Rattle.trie_core.specs.InnerWalks.{part_map, levels_of, nodes_of, AreInOrder, Left, left_code};
+    ghost use Rattle.trie_core.specs.InnerOwned.{owned_places};
 
     ghost Value = { Left T };
 
     ghost coded = { left_code T.code };
 
-    ghost view = { λ a. (entries (part_map a.values a.children), levels_of a.children + 1, 2 * nodes_of a.children) };
+    ghost view = { λ a. (entries (part_map (owned_places a.values) (owned_places a.children)), levels_of (owned_places a.children) + 1, 2 * nodes_of (owned_places a.children), a.bits) };
 
-    ghost invariant = { λ a. AreInOrder a.values a.children };
+    ghost invariant = { λ a. AreInOrder (owned_places a.values) (owned_places a.children) };
 }
 
 /// The default frame is empty.
 impl<T> Default for OwnedFrame<T> {
     fn default() -> OwnedFrame<T> {
         OwnedFrame {
-            values: Places::default(),
-            children: Places::default(),
+            values: OwnedPlaces::none(),
+            children: OwnedPlaces::none(),
+            bits: 5,
         }
     }
 }
 
-/// The values and the children of a node, with their places.
-fn parts<T>(node: Node<T>) -> (Places<T>, Places<Node<T>>)
-    ensures { AreParts node result.0 result.1 }
+/// Returns the values and the children of a node.
+fn parts<T>(node: Node<T>) -> (OwnedPlaces<T>, OwnedPlaces<Node<T>>)
+    ensures { AreParts node (owned_places result.0) (owned_places result.1) }
 {
     let Node {
-        value_bits,
+        skip,
+        levels,
+        branch,
+    } = node;
+    if levels == 0 {
+        return branch_parts(branch);
+    }
+    let below = levels - 1;
+    let child = ((skip >> (5 * below)) % 32) as u8;
+    let node = Node {
+        skip: low_bits(skip, 5 * below),
+        levels: below,
+        branch,
+    };
+    (OwnedPlaces::none(), OwnedPlaces::One(child, node))
+}
+
+/// Returns the values and the children of a branch.
+fn branch_parts<T>(branch: Branch<T>) -> (OwnedPlaces<T>, OwnedPlaces<Node<T>>)
+    ensures { AreParts branch (owned_places result.0) (owned_places result.1) }
+{
+    let Branch {
+        body,
         child_bits,
+        value_bits,
+    } = branch;
+    let (values, children) = body.into_lists();
+    let values = OwnedPlaces::new(value_bits, values);
+    let children = Places::new(child_bits, children);
+    (values, OwnedPlaces::List(children))
+}
+
+/// Returns the frame of the node's branch, and the path to it. The node is the child of this number below the node at `way`.
+fn opened<T>(node: Node<T>, child: u8, way: &Path) -> (OwnedFrame<T>, Path)
+    requires child { child < 32 }
+    requires levels { length way.now + 5 * node.levels ≤ 125 }
+    ensures { IsOpened way.now child node result.0 result.1 }
+{
+    let Node {
+        skip,
+        levels,
+        branch,
+    } = node;
+    let (values, children) = branch_parts(branch);
+    let below = way.down(child, skip, levels);
+    let bits = 5 * levels + 5;
+    let frame = OwnedFrame {
         values,
         children,
+        bits,
+    };
+    (frame, below)
+}
+
+/// Returns the node below the first five bits of a branch. The rest of the branch is dropped.
+fn child_of_branch<T: Drop>(branch: Branch<T>, path: &Path) -> Option<Node<T>>
+    requires { 5 ≤ length path.now }
+    ensures { MatchOption result (HasNoChild path.now branch) (λ c. IsChild path.now branch c) }
+{
+    match slot(branch.child_bits, path.five()) {
+        None => None,
+        Some(at) => {
+            let mut body = branch.body;
+            Some(body.remove_child(at))
+        }
+    }
+}
+
+/// Returns the node below the first five bits. The rest of the node is dropped.
+fn child_of_node<T: Drop>(node: Node<T>, path: &Path) -> Option<Node<T>>
+    requires { 5 ≤ length path.now }
+    ensures { MatchOption result (HasNoChild path.now node) (λ c. IsChild path.now node c) }
+{
+    let Node {
+        skip,
+        levels,
+        branch,
     } = node;
-    (
-        Places::new(value_bits, values),
-        Places::new(child_bits, children),
-    )
+    if levels == 0 {
+        return child_of_branch(branch, path);
+    }
+    let below = levels - 1;
+    if ((skip >> (5 * below)) % 32) as u8 != path.five() {
+        return None;
+    }
+    Some(Node {
+        skip: low_bits(skip, 5 * below),
+        levels: below,
+        branch,
+    })
 }
 
 impl<T: Drop> Frame<T> for OwnedFrame<T> {
@@ -199,29 +373,33 @@ impl<T: Drop> Frame<T> for OwnedFrame<T> {
 
     ghost left = { λ f. f };
 
-    /// Drops the rest of the node.
+    #[inline]
+    fn bits(&self) -> u8 {
+        self.bits
+    }
+
+    /// The rest of the node is dropped.
     fn child(node: Node<T>, path: &Path) -> Option<Node<T>> {
-        match slot(node.child_bits, path.five()) {
-            None => None,
-            Some(at) => {
-                let mut children = node.children;
-                Some(children.remove(at))
-            }
-        }
+        child_of_node(node, path)
     }
 
     fn whole(node: Node<T>) -> OwnedFrame<T> {
         let (values, children) = parts(node);
-        OwnedFrame { values, children }
+        OwnedFrame {
+            values,
+            children,
+            bits: 5,
+        }
     }
 
-    /// Drops the other entries.
+    /// The others are dropped.
     fn inside(node: Node<T>, path: &Path) -> OwnedFrame<T> {
         let (values, children) = parts(node);
         let (len, place, child) = (path.len(), path.place(), path.five());
         OwnedFrame {
             values: values.from(place).before(place + (31 >> len)),
             children: children.from(child).before(child + (32 >> len)),
+            bits: 5,
         }
     }
 
@@ -236,8 +414,8 @@ impl<T: Drop> Frame<T> for OwnedFrame<T> {
         let Some((child, node)) = self.children.next() else {
             return Next::Nothing;
         };
-        let (values, children) = parts(node);
-        Next::Below(OwnedFrame { values, children }, way.with(child, 5))
+        let (below, way) = opened(node, child, way);
+        Next::Below(below, way)
     }
 }
 

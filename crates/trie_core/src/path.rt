@@ -2,6 +2,8 @@
 ghost use Rattle.std.specs.Prelude.{◌≡◌, ◌+◌, ◌-◌, ◌/◌, ◌^◌, ◌<◌, ◌≤◌, ◌++◌, length, drop, nat_lt, [], ◌∷◌, ⊤};
 ghost use Rattle.ipnet_blocks.specs.Blocks.{digits};
 ghost use Rattle.trie_core.specs.InnerPlaces.{place_of, child_of, IsBeginMask};
+ghost use Rattle.std.specs.Prelude.{◌*◌, IsTrue, ◌↔◌};
+ghost use Rattle.trie_core.specs.InnerChains.{Starts, EndsIn};
 ghost use Rattle.trie_core.specs.Prefixes.{prefix_bits, IsMasked};
 
 use crate::tables::{beginnings, bit};
@@ -156,6 +158,81 @@ impl Path {
         Path {
             bits: self.bits << 5,
             len: self.len - 5,
+        }
+    }
+
+    /// Returns whether the string begins with these skipped levels: five bits for each, the digits of `skip`.
+    #[inline]
+    pub(crate) fn starts(&self, skip: u32, levels: u8) -> bool
+        requires levels { levels ≤ 5 }
+        requires skip { skip < 2 ^ (5 * levels) }
+        ensures { IsTrue result ↔ Starts levels skip self.now }
+    {
+        if levels == 0 {
+            return true;
+        }
+        let count = 5 * levels;
+        self.len >= count && self.bits >> (128 - count) == u128::from(skip)
+    }
+
+    /// Returns whether the string ends inside these skipped levels: it is shorter, and they begin with it.
+    #[inline]
+    pub(crate) fn ends_in(&self, skip: u32, levels: u8) -> bool
+        requires levels { levels ≤ 5 }
+        requires skip { skip < 2 ^ (5 * levels) }
+        ensures { IsTrue result ↔ EndsIn levels skip self.now }
+    {
+        let count = 5 * levels;
+        if self.len >= count {
+            return false;
+        }
+        let more = count - self.len;
+        self.bits >> (128 - count) >> more == u128::from(skip >> more)
+    }
+
+    /// Returns the number that the first bits form, five for each level.
+    #[inline]
+    pub(crate) fn head(&self, levels: u8) -> u32
+        requires levels { levels ≤ 5 }
+        requires within { 5 * levels ≤ length self.now }
+        ensures below { result < 2 ^ (5 * levels) }
+        ensures starts { Starts levels result self.now }
+    {
+        if levels == 0 {
+            return 0;
+        }
+        (self.bits >> (128 - 5 * levels)) as u32
+    }
+
+    /// Returns the string without its first bits, five for each level.
+    #[inline]
+    pub(crate) fn past(&self, levels: u8) -> Path
+        requires levels { levels ≤ 5 }
+        requires within { 5 * levels ≤ length self.now }
+        ensures { result ≡ drop (5 * levels) self.now }
+    {
+        let count = 5 * levels;
+        Path {
+            bits: self.bits << count,
+            len: self.len - count,
+        }
+    }
+
+    /// Returns the string followed by the five bits of a child's number, and then by the child's skipped levels.
+    #[inline]
+    pub(crate) fn down(&self, child: u8, skip: u32, levels: u8) -> Path
+        requires child { child < 32 }
+        requires levels { levels ≤ 5 }
+        requires skip { skip < 2 ^ (5 * levels) }
+        requires within { length self.now + (5 * levels + 5) ≤ 128 }
+        ensures { result ≡ self.now ++ digits (5 * levels + 5) (child * 2 ^ (5 * levels) + skip) }
+    {
+        let number = (u32::from(child) << (5 * levels)) + skip;
+        let count = 5 * levels + 5;
+        let len = self.len + count;
+        Path {
+            bits: self.bits + (u128::from(number) << (128 - len)),
+            len,
         }
     }
 

@@ -11,8 +11,7 @@ ghost use Rattle.trie_core.specs.InnerTrails.{along, IsWalk};
 ghost use Rattle.trie_core.specs.InnerSteps.{Stepped};
 
 use crate::frame::{Frame, FrameStack, LentStack, Next};
-use crate::lent_frame::LentFrame;
-use crate::node::Node;
+use crate::lent_frame::{LentFrame, LentNode};
 use crate::owned_frame::OwnedFrame;
 use crate::path::Path;
 use arrayvec::ArrayVec;
@@ -20,9 +19,9 @@ use std::alloc::AllocError;
 use std::marker::{Model, PhantomData};
 
 /// The rest of a walk: the entries of the frames on the stack, the top frame first. The trail is the path to the node of the top
-/// frame, and the path of each frame is five bits longer than that of the frame below it on the stack.
+/// frame, and each frame has the number of bits by which its path is longer than that of the frame below it on the stack.
 ///
-/// There are at most 25 levels of nodes below a node, and a walk has one open frame for each level.
+/// There are at most 25 levels of nodes below a node, and a walk has at most one open frame for each level.
 #[derive(Drop)]
 pub struct FrameWalk<T, S: FrameStack<T>> {
     stack: S,
@@ -30,11 +29,11 @@ pub struct FrameWalk<T, S: FrameStack<T>> {
     values: PhantomData<T>,
 }
 
-/// The rest of a walk over borrowed values.
-pub type Walk<'a, T> = FrameWalk<T, ArrayVec<LentFrame<'a, T>, 26>>;
+/// The walk over the frames of lent nodes.
+pub(crate) type LentFrames<'a, T> = FrameWalk<T, ArrayVec<LentFrame<'a, T>, 26>>;
 
-/// The rest of a walk over owned values. Entries that it hasn't returned are dropped with it.
-pub type OwnedWalk<T> = FrameWalk<T, ArrayVec<OwnedFrame<T>, 26>>;
+/// The walk over the frames of owned nodes.
+pub(crate) type OwnedFrames<T> = FrameWalk<T, ArrayVec<OwnedFrame<T>, 26>>;
 
 impl<T, S: FrameStack<T>> Model for FrameWalk<T, S> {
     ghost use Rattle.std.specs.Prelude.{ℕ, List, Bool};
@@ -58,13 +57,13 @@ pub(crate) enum Step<G> {
     Done,
 }
 
-/// The path without its last five bits.
+/// Returns the path without its last `bits` bits.
 #[inline]
-fn above(way: &Path) -> Path
+fn above(way: &Path, bits: u8) -> Path
     requires { length way.now ≤ 128 }
-    ensures { result ≡ take (length way.now - 5) way.now }
+    ensures { result ≡ take (length way.now - bits) way.now }
 {
-    Path::new(way.to_bits(), way.len().saturating_sub(5))
+    Path::new(way.to_bits(), way.len().saturating_sub(bits))
 }
 
 impl<T, S: FrameStack<T>> FrameWalk<T, S> {
@@ -94,7 +93,7 @@ impl<T, S: FrameStack<T>> FrameWalk<T, S> {
     }
 
     /// Makes a walk over the entries of a node.
-    pub fn new(node: <S::Frame as Frame<T>>::Node) -> FrameWalk<T, S>
+    pub(crate) fn whole(node: <S::Frame as Frame<T>>::Node) -> FrameWalk<T, S>
         requires levels { (S.Frame.seen node).levels ≤ 26 }
         requires keys { KeysWithin 128 (entries (S.Frame.seen node).entries) }
         ensures { result.0 ≡ entries (S.Frame.seen node).entries }
@@ -103,7 +102,7 @@ impl<T, S: FrameStack<T>> FrameWalk<T, S> {
     }
 
     /// Makes a walk over the entries whose keys begin with a path, the path itself included. Other owned entries are dropped.
-    pub fn inside(node: <S::Frame as Frame<T>>::Node, path: Path) -> FrameWalk<T, S>
+    pub(crate) fn within(node: <S::Frame as Frame<T>>::Node, path: Path) -> FrameWalk<T, S>
         requires within { length path ≤ 128 }
         requires levels { (S.Frame.seen node).levels ≤ 26 }
         requires keys { KeysWithin 128 (entries (S.Frame.seen node).entries) }
@@ -137,8 +136,10 @@ impl<T, S: FrameStack<T>> FrameWalk<T, S> {
                 Step::Moved
             }
             Some(Next::Nothing) => {
-                drop(self.stack.pop());
-                self.trail = above(&self.trail);
+                let Some(frame) = self.stack.pop() else {
+                    unreachable!()
+                };
+                self.trail = above(&self.trail, frame.bits());
                 Step::Moved
             }
         }
@@ -147,18 +148,18 @@ impl<T, S: FrameStack<T>> FrameWalk<T, S> {
 
 impl<'a, T> FrameWalk<T, ArrayVec<LentFrame<'a, T>, 26>> {
     /// Makes a walk over the entries whose keys come after a path, in order; the entry of the path itself too if `inclusive`.
-    pub fn onwards(node: &'a Node<T>, path: Path, inclusive: bool) -> Walk<'a, T>
+    pub(crate) fn onwards(node: LentNode<'a, T>, path: Path, inclusive: bool) -> LentFrames<'a, T>
         requires within { length path ≤ 128 }
-        requires levels { node.now.levels ≤ 26 }
-        requires keys { KeysWithin 128 (entries node.now.entries) }
-        ensures { result.0 ≡ where_key bits_cmp (is_from path inclusive) (entries node.now.entries) }
+        requires levels { node.levels ≤ 26 }
+        requires keys { KeysWithin 128 (entries node.entries) }
+        ensures { result.0 ≡ where_key bits_cmp (is_from path inclusive) (entries node.entry.entries) }
     {
         let mut stack = ArrayVec::new();
         let mut node = node;
         let mut path = path;
         let mut trail = Path::new(0, 0);
         'way: while !path.is_short() {
-            stack.push(LentFrame::past(node, &path));
+            stack.push(LentFrame::past(&node, &path));
             match node.child(&path) {
                 None => return FrameWalk::over(stack, trail),
                 Some(child) => node = child,
@@ -166,7 +167,7 @@ impl<'a, T> FrameWalk<T, ArrayVec<LentFrame<'a, T>, 26>> {
             trail = trail.with(path.five(), 5);
             path = path.rest();
         }
-        stack.push(LentFrame::onwards(node, &path, inclusive));
+        stack.push(LentFrame::onwards(&node, &path, inclusive));
         FrameWalk::over(stack, trail)
     }
 }

@@ -1,5 +1,5 @@
 use Rattle.std.proofs.Common.{◌≡◌, ℕ, ◌<◌, length, get_or}
-use Rattle.hop_index.specs.InnerIndexes.{IsWithin}
+use Rattle.hop_index.specs.InnerRanges.{IsWithin}
 use Rattle.hop_index.proofs.batches.narrow.Given as goal
 
 abbrev pub invariant-loop-place : goal.invariant-loop-place

@@ -14,4 +14,5 @@ returns g c =
       is = last_set xs c.in-Some.last.now c.next.new.self item.3.0 item.1;
       next = c.next.ensures.next;
       levels = c.next.ensures.levels;
+      bits = c.next.ensures.bits;
     }

@@ -4,12 +4,12 @@ use Rattle.hop_index.proofs.Searches.{before_pads, found}
 use Rattle.hop_index.proofs.lookups.Lookups.hop_within.Goals as goal
 
 pub hop-requires : goal.hop-requires
-hop-requires g c = let h = before_pads c.self.inside.nodes.ranges _ _ c.ended-place.result c.self.invariant.2 c.requires.number c.ended-place.ensures.below in omega (arith, h)
+hop-requires g c = let h = before_pads c.self.inside.nodes.ranges _ _ c.ended-place.result c.self.invariant.1 c.requires.number c.ended-place.ensures.below in omega (arith, h)
 
 pub returns : goal.returns
 returns g c =
     let rs : List HopRange = c.self.inside.nodes.ranges in
     let d : HopRange = record { last = 0; hop = None } in
     let number : ℕ = g.N.Stored.number c.args.number in
-    let within : c.ended-place.result < length rs = let h = before_pads rs _ _ c.ended-place.result c.self.invariant.2 c.requires.number c.ended-place.ensures.below in omega (arith, h) in
+    let within : c.ended-place.result < length rs = let h = before_pads rs _ _ c.ended-place.result c.self.invariant.1 c.requires.number c.ended-place.ensures.below in omega (arith, h) in
     c.hop.ensures d ∙ (sym (found rs c.ended-place.result d number within c.ended-place.ensures.below c.ended-place.ensures.from) ∙ ap (λ (xs : List HopRange). hop_in xs number) c.self.view_is)

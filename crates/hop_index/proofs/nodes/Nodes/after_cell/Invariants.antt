@@ -1,13 +1,13 @@
-use Rattle.std.proofs.Common.{ℕ, ◌-◌, ◌<◌, ◌≤◌, get_or}
+use Rattle.std.proofs.Common.{ℕ, ◌-◌, ◌<◌, ◌≤◌, get_or, option_copied}
 use Rattle.hop_index.specs.Ranges.{HopRange}
-use Rattle.hop_index.specs.InnerNodes.{cell_in}
+use Rattle.hop_index.specs.InnerNodes.{cell_by}
 use Rattle.hop_index.proofs.nodes.Nodes.after_cell.Given as goal
 
 abbrev pub invariant-loop-place : goal.invariant-loop-place
 invariant-loop-place g l = record {
   least : l.initial.place ≤ l.place;
   most : l.place ≤ l.node.after;
-  inside : (k : ℕ) (d : HopRange) → l.initial.place ≤ k → k < l.place → cell_in l.node (get_or l.self.ranges k d).last ≤ l.cell;
+  inside : (k : ℕ) (d : HopRange) → l.initial.place ≤ k → k < l.place → cell_by g.N.Stored.width (option_copied l.tops) l.node (get_or l.self.ranges k d).last ≤ l.cell;
 }
 
 abbrev pub decreases-loop-place : goal.decreases-loop-place

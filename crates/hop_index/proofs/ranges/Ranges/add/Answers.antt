@@ -1,4 +1,4 @@
-use Rattle.std.proofs.Common.{◌≡◌, ◌+◌, ◌^◌, ◌<◌, ℕ, [], ◌∷◌, ◌++◌, List, Some, length, arith}
+use Rattle.std.proofs.Common.{◌≡◌, ◌+◌, ◌^◌, [], ◌∷◌, ◌++◌, List, Some, length, arith}
 use Rattle.hop_index.specs.Ranges.{HopRange}
 use Rattle.hop_index.proofs.Searches.{below_later, push_ascends, push_below}
 use Rattle.hop_index.proofs.Walks.{push_hops}

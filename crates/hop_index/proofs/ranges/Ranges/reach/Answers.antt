@@ -1,4 +1,4 @@
-use Rattle.std.proofs.Common.{◌≡◌, ◌+◌, ◌-◌, ◌<◌, ℕ, [], ◌∷◌, ◌++◌, List, None, length, arith}
+use Rattle.std.proofs.Common.{◌+◌, ℕ, List, None, length, arith}
 use Rattle.hop_index.specs.Ranges.{HopRange}
 use Rattle.hop_index.specs.InnerRanges.{EndsBelow}
 use Rattle.hop_index.proofs.Searches.{below_later, push_ascends, push_below, push_none, push_reaches}

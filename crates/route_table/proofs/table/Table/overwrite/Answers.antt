@@ -1,7 +1,8 @@
-use Rattle.std.proofs.Common.{◌≡◌, ◌∙◌, List, [], ◌∷◌, sym, ap, arith, subst}
+use Rattle.std.proofs.Common.{rules, ◌≡◌, ◌∙◌, List, [], ◌∷◌, sym, ap, arith, subst}
 use Rattle.std.specs.Prelude.{Result, Ok, Err, OnErr, if◌then◌else◌}
 use Rattle.ipnet_addr.specs.Addresses.{Address, IsAddress}
 use Rattle.ipnet_blocks.specs.Blocks.{Block, IsBlock, has_address}
+use Rattle.ipnet_blocks.proofs.Search.{left_is_block, right_is_block}
 use Rattle.ipnet.specs.IpNets.{block}
 use Rattle.ipnet.specs.declared.ip_net.IpNet.{IpNet}
 use Rattle.route_choices.specs.Choices.{default_preference}
@@ -49,3 +50,13 @@ returns-else-not-is_leaf-clause-networks g c =
 
 pub returns-else-not-is_leaf-clause-hops : goal.returns-else-not-is_leaf-clause-hops
 returns-else-not-is_leaf-clause-hops g c = over _ _ _ _ (returns-else-not-is_leaf-clause-networks g c) c.in_ok-is_leaf.ensures.tables.0 (subst IsBlock c.cleared-net.ensures.block c.cleared-net.ensures.is_block) c.in_ok-is_leaf.ensures.hop
+
+pub remove_inside-requires : goal.remove_inside-requires
+remove_inside-requires g c =
+    let room = room_inside _ c.in_ok-is_leaf.ensures.tables.1 (block c.cleared-net.result) c.cleared-net.ensures.is_block _ c.in_ok-is_leaf.ensures.leaf c.if-not-is_leaf.true in
+    (search rules, subst IsBlock (sym c.halves.ensures.lower) (left_is_block (block c.cleared-net.result) c.cleared-net.ensures.is_block room))
+
+pub remove_inside-requires-then-not-is_leaf : goal.remove_inside-requires-then-not-is_leaf
+remove_inside-requires-then-not-is_leaf g c =
+    let room = room_inside _ c.in_ok-is_leaf.ensures.tables.1 (block c.cleared-net.result) c.cleared-net.ensures.is_block _ c.in_ok-is_leaf.ensures.leaf c.if-not-is_leaf.true in
+    (search rules, subst IsBlock (sym c.halves.ensures.upper) (right_is_block (block c.cleared-net.result) c.cleared-net.ensures.is_block room))

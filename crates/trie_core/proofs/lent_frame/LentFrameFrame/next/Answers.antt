@@ -1,8 +1,10 @@
+use Rattle.trie_core.specs.InnerLent.{lent_children}
 use Rattle.std.proofs.Common.{◌∙◌, [], ◌∷◌, ◌++◌, sym, ap, arith, subst}
 use Rattle.std.specs.FinMap.{entries}
 use Rattle.trie_core.specs.InnerNodes.{under}
-use Rattle.trie_core.specs.InnerWalks.{KeysWithin, part_map}
-use Rattle.trie_core.proofs.Frames.{part_rest, is_frame, first_told, place_within, value_next, value_key, child_next, child_rest, child_bits, nothing_next, under_none, below_way, keys_split}
+use Rattle.trie_core.specs.InnerWalks.{KeysWithin, part_map, levels_of}
+use Rattle.trie_core.proofs.Frames.{part_rest, is_frame, first_told, place_within, value_next, value_key, child_next, nothing_next, under_none, keys_split}
+use Rattle.trie_core.proofs.Opened.{first_below, opened_rest}
 use Rattle.trie_core.proofs.lent_frame.LentFrameFrame.next.Goals as goal
 
 pub value_first-requires : goal.value_first-requires
@@ -26,63 +28,53 @@ returns-then-value_first-clause-next g c =
     let first = first_told c.self.invariant c.first_place.ensures c.first_place-2.ensures c.if-value_first.ensures in
     let way = c.args.way.now in (
       ap (λ s. under way s.0) (sym c.self.view_is) ∙ (value_next (is_frame c.args.way.now c.self.invariant c.self.view_is c.requires.levels c.requires.keys) c.in-Some.ensures first).rest
-          ∙ ap (λ k. (k, c.in-Some.value.now) ∷ part_rest c.next.new.self c.self.inside.children way) (sym (value_key way c.in-Some.place c.first_child.result c.with-key.ensures c.place_length.ensures.value c.first_child.ensures.bits)),
+          ∙ ap (λ k. (k, c.in-Some.value.now) ∷ part_rest c.next.new.self (lent_children c.self.inside.children) way) (sym (value_key way c.in-Some.place c.first_child.result c.with-key.ensures c.place_length.ensures.value c.first_child.ensures.bits)),
       omega (arith, ap (λ s. s.1) c.self.view_is),
     )
 
 pub returns-in_default-next-clause-next : goal.returns-in_default-next-clause-next
 returns-in_default-next-clause-next g c =
     let first = first_told c.self.invariant c.first_place.ensures c.first_place-2.ensures c.if-value_first.ensures in
-    ap (λ s. s.0) (sym c.self.view_is) ∙ sym (under_none (entries (part_map c.self.inside.values c.self.inside.children))) ∙ nothing_next c.self.inside.values [] c.in_default-next.ensures.0 first
+    ap (λ s. s.0) (sym c.self.view_is) ∙ sym (under_none (entries (part_map c.self.inside.values (lent_children c.self.inside.children)))) ∙ nothing_next c.self.inside.values [] c.in_default-next.ensures.0 first
 
-pub with-way-requires-clause-room : goal.with-way-requires-clause-room
-with-way-requires-clause-room g c = omega (arith, c.requires.levels, ap (λ s. s.1) c.self.view_is)
+pub opened-below-requires-clause-child : goal.opened-below-requires-clause-child
+opened-below-requires-clause-child g c = first_below c.self.invariant.children_below c.in-Some-next.ensures
 
-pub with-way-requires-clause-within : goal.with-way-requires-clause-within
-with-way-requires-clause-within g c =
-    let first = first_told c.self.invariant c.first_place.ensures c.first_place-2.ensures c.if-value_first.ensures in
-    let f = is_frame c.args.way.now c.self.invariant c.self.view_is c.requires.levels c.requires.keys in
-    let a = c.parts-values.ensures in
-    let n = child_next f c.in-Some-next.ensures first (omega (arith, a.levels)) in
-    n.within
-
-pub invariant_of-below : goal.invariant_of-below
-invariant_of-below g c = c.parts-values.ensures.order
+pub opened-below-requires-clause-levels : goal.opened-below-requires-clause-levels
+opened-below-requires-clause-levels g c = omega (arith, (is_frame c.args.way.now c.self.invariant c.self.view_is c.requires.levels c.requires.keys).levels, ap levels_of c.in-Some-next.ensures)
 
 pub invariant_of-self-2 : goal.invariant_of-self-2
 invariant_of-self-2 g c =
     let first = first_told c.self.invariant c.first_place.ensures c.first_place-2.ensures c.if-value_first.ensures in
     let f = is_frame c.args.way.now c.self.invariant c.self.view_is c.requires.levels c.requires.keys in
-    let a = c.parts-values.ensures in
-    let n = child_next f c.in-Some-next.ensures first (omega (arith, a.levels)) in
+    let o = c.opened-below.ensures in
+    let n = child_next f c.in-Some-next.ensures first (omega (arith, o.positive, o.fewer)) in
     n.frame.order
 
 pub only-requires-clause-levels : goal.only-requires-clause-levels
 only-requires-clause-levels g c =
     let first = first_told c.self.invariant c.first_place.ensures c.first_place-2.ensures c.if-value_first.ensures in
     let f = is_frame c.args.way.now c.self.invariant c.self.view_is c.requires.levels c.requires.keys in
-    let a = c.parts-values.ensures in
-    let n = child_next f c.in-Some-next.ensures first (omega (arith, a.levels)) in
-    let way = c.args.way.now in
-    let u = below_way way c.in-Some-next.child (c.with-way.ensures ∙ ap (λ t. way ++ t) (child_bits c.in-Some-next.child)) in
-    omega (arith, u.1, n.less.0, a.levels, c.requires.levels, ap (λ s. s.1) c.self.view_is)
+    let o = c.opened-below.ensures in
+    let n = child_next f c.in-Some-next.ensures first (omega (arith, o.positive, o.fewer)) in
+    omega (arith, o.longer, o.reach, n.less.0, c.requires.levels, ap (λ s. s.1) c.self.view_is)
 
 pub only-requires-clause-keys : goal.only-requires-clause-keys
 only-requires-clause-keys g c =
     let first = first_told c.self.invariant c.first_place.ensures c.first_place-2.ensures c.if-value_first.ensures in
     let f = is_frame c.args.way.now c.self.invariant c.self.view_is c.requires.levels c.requires.keys in
-    let a = c.parts-values.ensures in
-    let n = child_next f c.in-Some-next.ensures first (omega (arith, a.levels)) in
-    (keys_split 128 _ _ (subst (KeysWithin 128) (child_rest n c.with-way.ensures a) f.keys)).0
+    let o = c.opened-below.ensures in
+    let n = child_next f c.in-Some-next.ensures first (omega (arith, o.positive, o.fewer)) in
+    (keys_split 128 _ _ (subst (KeysWithin 128) (opened_rest n o) f.keys)).0
 
 pub returns-in-Some-only-clause-next : goal.returns-in-Some-only-clause-next
 returns-in-Some-only-clause-next g c =
     let first = first_told c.self.invariant c.first_place.ensures c.first_place-2.ensures c.if-value_first.ensures in
     let f = is_frame c.args.way.now c.self.invariant c.self.view_is c.requires.levels c.requires.keys in
-    let a = c.parts-values.ensures in
-    let n = child_next f c.in-Some-next.ensures first (omega (arith, a.levels)) in
+    let o = c.opened-below.ensures in
+    let n = child_next f c.in-Some-next.ensures first (omega (arith, o.positive, o.fewer)) in
     let way = c.args.way.now in (
-      ap (λ s. under way s.0) (sym c.self.view_is) ∙ child_rest n c.with-way.ensures a ∙ ap (λ es. es ++ part_rest c.self.inside.values c.next-2.new.self way) c.in-Some-only.ensures,
+      ap (λ s. under way s.0) (sym c.self.view_is) ∙ opened_rest n o ∙ ap (λ es. es ++ part_rest c.self.inside.values (lent_children c.next-2.new.self) way) c.in-Some-only.ensures,
       omega (arith, ap (λ s. s.1) c.self.view_is, n.less.1),
     )
 
@@ -90,15 +82,15 @@ pub returns-clause-next : goal.returns-clause-next
 returns-clause-next g c =
     let first = first_told c.self.invariant c.first_place.ensures c.first_place-2.ensures c.if-value_first.ensures in
     let f = is_frame c.args.way.now c.self.invariant c.self.view_is c.requires.levels c.requires.keys in
-    let a = c.parts-values.ensures in
-    let n = child_next f c.in-Some-next.ensures first (omega (arith, a.levels)) in
-    let way = c.args.way.now in
-    let u = below_way way c.in-Some-next.child (c.with-way.ensures ∙ ap (λ t. way ++ t) (child_bits c.in-Some-next.child)) in (
-      ap (λ s. under way s.0) (sym c.self.view_is) ∙ child_rest n c.with-way.ensures a,
-      omega arith,
-      omega (arith, ap (λ s. s.1) c.self.view_is, n.less.0, a.levels),
+    let o = c.opened-below.ensures in
+    let n = child_next f c.in-Some-next.ensures first (omega (arith, o.positive, o.fewer)) in
+    let way = c.args.way.now in (
+      ap (λ s. under way s.0) (sym c.self.view_is) ∙ opened_rest n o,
+      o.positive,
+      omega (arith, ap (λ s. s.1) c.self.view_is, n.less.0, o.fewer),
       omega (arith, ap (λ s. s.1) c.self.view_is, n.less.1),
-      omega (arith, ap (λ s. s.2) c.self.view_is, n.less.2, a.nodes),
-      u.0,
-      u.1,
+      omega (arith, ap (λ s. s.2) c.self.view_is, n.less.2, o.nodes),
+      o.above,
+      o.longer,
+      omega (arith, ap (λ s. s.1) c.self.view_is, n.less.0, o.reach),
     )

@@ -4,8 +4,8 @@ use Rattle.trie_core.proofs.node.Node.longest.Given as goal
 
 abbrev pub invariant-way : goal.invariant-way
 invariant-way g l = record {
-  place : IsAt l.fn.self l.fn.path l.depth l.node l.path;
-  best : IsBest (λ s. s.now) l.fn.self.entries l.fn.path l.depth l.best;
+  place : IsAt l.self l.fn.path l.depth l.node l.path;
+  best : IsBest (λ s. s.now) l.self.entries l.fn.path l.depth l.best;
 }
 
 abbrev pub decreases-way : goal.decreases-way

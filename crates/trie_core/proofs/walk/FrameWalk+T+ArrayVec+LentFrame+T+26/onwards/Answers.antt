@@ -10,24 +10,24 @@ way-init g c = start_going c.args.inclusive c.requires.levels c.requires.keys c.
 pub over-requires : goal.over-requires
 over-requires g c =
     let h : 5 ≤ length c.way.path = grind (arith, nat_tests) in
-    (going_none c.requires.keys c.way.invariant h c.in-None.ensures c.past.ensures.rest (put_going c.way.invariant c.past.ensures.positive c.past.ensures.levels c.push.ensures.items)).0
+    (going_none c.requires.keys c.way.invariant h c.in-None.ensures c.past.ensures.rest (put_going c.way.invariant c.past.ensures.bits c.past.ensures.positive c.past.ensures.levels c.push.ensures.items)).0
 
 pub returns-in-None : goal.returns-in-None
 returns-in-None g c =
     let h : 5 ≤ length c.way.path = grind (arith, nat_tests) in
-    ap (λ w. w.0) c.over.ensures ∙ (going_none c.requires.keys c.way.invariant h c.in-None.ensures c.past.ensures.rest (put_going c.way.invariant c.past.ensures.positive c.past.ensures.levels c.push.ensures.items)).1
+    ap (λ w. w.0) c.over.ensures ∙ (going_none c.requires.keys c.way.invariant h c.in-None.ensures c.past.ensures.rest (put_going c.way.invariant c.past.ensures.bits c.past.ensures.positive c.past.ensures.levels c.push.ensures.items)).1
 
 pub way-preserved : goal.way-preserved
 way-preserved g c =
     let h : 5 ≤ length c.way.path = grind (arith, nat_tests) in
     going_below c.way.invariant h c.in-Some.ensures (five_bits c.way.trail c.way.path h c.five.ensures.value c.with-trail.ensures) c.rest-path.ensures c.past.ensures.rest
-    (put_going c.way.invariant c.past.ensures.positive c.past.ensures.levels c.push.ensures.items)
+    (put_going c.way.invariant c.past.ensures.bits c.past.ensures.positive c.past.ensures.levels c.push.ensures.items)
 
 pub over-requires-2 : goal.over-requires-2
-over-requires-2 g c = (going_end c.requires.keys c.way.invariant c.onwards.ensures.rest (put_going c.way.invariant c.onwards.ensures.positive c.onwards.ensures.levels c.push-2.ensures.items)).0
+over-requires-2 g c = (going_end c.requires.keys c.way.invariant c.onwards.ensures.rest (put_going c.way.invariant c.onwards.ensures.bits c.onwards.ensures.positive c.onwards.ensures.levels c.push-2.ensures.items)).0
 
 pub returns : goal.returns
-returns g c = ap (λ w. w.0) c.over-2.ensures ∙ (going_end c.requires.keys c.way.invariant c.onwards.ensures.rest (put_going c.way.invariant c.onwards.ensures.positive c.onwards.ensures.levels c.push-2.ensures.items)).1
+returns g c = ap (λ w. w.0) c.over-2.ensures ∙ (going_end c.requires.keys c.way.invariant c.onwards.ensures.rest (put_going c.way.invariant c.onwards.ensures.bits c.onwards.ensures.positive c.onwards.ensures.levels c.push-2.ensures.items)).1
 
 pub push-requires : goal.push-requires
 push-requires g c = (lit< tt, omega (arith, room_left c.way.invariant, c.past.ensures.positive, c.past.ensures.levels))

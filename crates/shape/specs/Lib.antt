@@ -1,0 +1,4 @@
+pub mod Shapes
+pub mod KeptValues
+pub mod Lends
+pub mod InnerGrowth

@@ -1,0 +1,37 @@
+use Rattle.std.proofs.Common.{◌∙◌, sym, ap, subst, arith}
+use Rattle.std.specs.Ordering.{nat_cmp}
+use Rattle.std.specs.FinMap.{find}
+use Rattle.shape.specs.Shapes.{shape_values, shape_children}
+use Rattle.trie_core.specs.InnerPlaces.{at_places}
+use Rattle.trie_core.specs.Ways.{IsKept}
+use Rattle.trie_core.proofs.Seen.{seen, viewed, map_of, value_at}
+use Rattle.trie_core.proofs.Shapes.{children_as}
+use Rattle.trie_core.proofs.Changes.{value_slots, value_taken_map, value_count}
+use Rattle.trie_core.proofs.Staying.{kept_short}
+use Rattle.trie_core.proofs.SkippedRemovals.{IsTakenAlone}
+use Rattle.trie_core.proofs.node.Branch.remove_here.Goals as goal
+
+pub invariant_of-self : goal.invariant_of-self
+invariant_of-self g c = children_as
+    (value_slots (seen c.self.invariant c.self.view_is) c.take_value.ensures.counted
+    (omega (arith, c.take_value.ensures.below, c.self.invariant.values_below))) c.take_value.ensures.children
+
+pub returns : goal.returns
+returns g c =
+    let s = seen c.self.invariant c.self.view_is in
+    let v = value_slots s c.take_value.ensures.counted (omega (arith, c.take_value.ensures.below, c.self.invariant.values_below)) in
+    let b = c.take_value.new.taken in
+    let l = shape_values c.take_value.new.body in
+    let z = subst (λ cs. IsTakenAlone c.args.path c.args.self.now c.take_value.result (viewed b l c.self.inside.child_bits cs))
+    (sym c.take_value.ensures.children) (record {
+      value = c.take_value.ensures.value
+          ∙ ap (λ n. find nat_cmp n (at_places 32 0 c.self.inside.value_bits (shape_values c.self.inside.body)))
+          c.place.ensures.value ∙ value_at c.args.path s c.requires;
+      map = value_taken_map c.args.path s v c.requires c.place.ensures.value c.take_value.ensures.items;
+      spares = subst (λ x. IsKept c.args.path c.args.self.now.entries c.args.self.now.spares
+          (map_of b l c.self.inside.child_bits (shape_children c.self.inside.body)) x) (sym s.spare)
+          (kept_short c.args.path s c.requires);
+      count = value_count s v;
+      levels = omega (arith, s.height);
+    }) in
+    record { value = z.value; map = z.map; spares = z.spares; count = z.count; levels = z.levels }

@@ -1,0 +1,8 @@
+use Rattle.std.proofs.Common.{◌∙◌, ap}
+use Rattle.trie_core.specs.InnerPlaces.{placed}
+use Rattle.trie_core.proofs.Seen.{seen}
+use Rattle.trie_core.proofs.Frames.{are_parts, same_parts}
+use Rattle.trie_core.proofs.owned_frame.branch_parts.Goals as goal
+
+pub returns : goal.returns
+returns g c = same_parts (c.new-values.ensures ∙ ap (placed c.branch.inside.value_bits) c.into_lists-values.ensures.values) (c.new-children.ensures ∙ ap (placed c.branch.inside.child_bits) c.into_lists-values.ensures.children) (are_parts (seen c.branch.invariant c.branch.view_is))
