@@ -1,9 +1,14 @@
 """What an installer has to write for its input, worked out from docs/ROUTES_FIB.md alone. Several tables may be least, or as near to the
 installed one. So its output is looked at batch by batch: whichever table a batch makes, it has to be one of these, and made in the order
 that is told."""
+import itertools
+
 from model import change, fewest, hop, network, painted, written
 
 WIDTHS = (32, 128)
+# The networks of 0.0.0.0/30, and the routes that each may have in a table: none, `drop`, or one of two hops.
+BLOCK = [(32, first, first + size - 1) for size in (4, 2, 1) for first in range(0, 4, size)]
+ROUTES = ("", None, 1, 2)
 
 
 def order(net):
@@ -62,6 +67,21 @@ def operations(table, told):
     return sum(fewest(told, width, [((first, last), to) for (w, first, last), to in table.items() if w == width]) for width in WIDTHS)
 
 
+def tables_of_block():
+    """All tables of BLOCK, as lists of routes, by the hops that they give to its four addresses."""
+    found = {}
+    for routes in itertools.product(ROUTES, repeat=len(BLOCK)):
+        table = [(net, to) for net, to in zip(BLOCK, routes) if to != ""]
+        found.setdefault(str(painted(table, 32)), []).append(routes)
+    return found
+
+
+def operations_in_block(table, told, tables):
+    """The least number of operations that bring a table of BLOCK to the hops after these changes, by a look at all tables."""
+    routes = [table.get(net, "") for net in BLOCK]
+    return min(sum(a != b for a, b in zip(routes, other)) for other in tables[str(painted(told, 32))])
+
+
 def note(line):
     """The meaning of an input line: `sync`, an installed route, a reply line without a change, or a change. ValueError if it is none of
     these."""
@@ -79,8 +99,9 @@ def note(line):
 class Installed:
     """The installed table, the leader's hops, and the batches so far."""
 
-    def __init__(self, batches):
+    def __init__(self, batches, operations):
         self.table, self.told, self.waiting, self.kept, self.batches = {}, [], [], False, batches
+        self.operations = operations
 
     def batch(self):
         """The operations of the next batch, and the table after them. It has the leader's hops, and the operations are those between both
@@ -103,7 +124,7 @@ class Installed:
         self.told += self.waiting
         if self.kept and self.waiting:
             batch, new = self.batch()
-            if len(batch) != operations(self.table, self.told):
+            if len(batch) != self.operations(self.table, self.told):
                 raise ValueError
             self.table = new
         self.waiting = []
@@ -137,8 +158,8 @@ def notes(stream):
     return found, stream[:count], False
 
 
-def is_installed(found, output):
-    """Whether an installer that never runs out of memory may write this for these notes."""
+def is_installed(found, output, operations=operations):
+    """Whether an installer that never runs out of memory may write this for these notes. `operations` counts those of an update."""
     lines = output.split(b"\n")
     batches = [[]]
     for line in lines[:-1]:
@@ -147,7 +168,7 @@ def is_installed(found, output):
             batches[-1].append(line)
     if lines[-1] or batches.pop():
         return False
-    installed = Installed(batches)
+    installed = Installed(batches, operations)
     try:
         for kind, what in found:
             installed.take(kind, what)
