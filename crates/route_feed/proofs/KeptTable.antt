@@ -22,7 +22,7 @@ use Rattle.route_laws.proofs.Turning.{hitless_from}
 use Rattle.route_feed.specs.Installing.{Installing, Noted, after_note, after_notes, begin, committing, event_of, events, route_to}
 use Rattle.route_feed.specs.InstallLaws.{AreFirst, HasSync, InstalledAgrees, InstalledAtAllTimes, InstalledIsHitless, IsNoHave, OperationsReach, RepliesAreFewest, SyncsAreLeast, SyncsStay, installed_by, operations_at, replies_of, table_by}
 use Rattle.route_feed.specs.Streams.{Change, closes, committed, ends_well, painted, is_done}
-use Rattle.route_feed.proofs.Beginnings.{all_in_range, commands_of, empty_is_table, followed, output_read}
+use Rattle.route_feed.proofs.Beginnings.{followed}
 use Rattle.route_feed.proofs.NotesInTurn.{after_events-append, events-append, is_kept, kept_later, may_split, replies_of-append, tables_after}
 use Rattle.route_feed.proofs.ToldNotes.{committed_from, told_notes}
 
@@ -48,7 +48,7 @@ kept_agrees bytes refusals ns first may kept x a =
     ap (λ M. hop_at M x) (given_reaches es may)
     ∙ keeps_hops es may kept x a
     ∙ told_is_committed ns x
-    ∙ followed [] (commands_of bytes) refusals (replies_of ns) later empty_is_table (all_in_range bytes) (sym split ∙ output_read bytes refusals) x a
+    ∙ followed bytes refusals (replies_of ns) later (sym split) x a
 
 pub installed_agrees : InstalledAgrees
 installed_agrees bytes refusals ns first may has x a = kept_agrees bytes refusals ns first may (is_kept ns has) x a

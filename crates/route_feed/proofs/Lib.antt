@@ -16,6 +16,7 @@ pub mod ReadNets
 pub mod Reread
 pub mod SameBytes
 pub mod Replies
+pub mod Values
 pub mod Beginnings
 pub mod Grammar
 pub mod Rebuilt

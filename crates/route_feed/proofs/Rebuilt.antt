@@ -28,7 +28,8 @@ use Rattle.route_feed.specs.Output.{at_end, table_after, whole_commands}
 use Rattle.route_feed.specs.Steps.{Answer, is_too_many, may_refuse, step}
 use Rattle.route_feed.specs.Streams.{committed, painted, replies_in}
 use Rattle.route_feed.specs.InnerLines.{add_command}
-use Rattle.route_feed.proofs.Beginnings.{beginnings_agree, empty_is_table}
+use Rattle.route_feed.proofs.Beginnings.{beginnings_agree}
+use Rattle.route_feed.proofs.Values.{empty_is_table}
 use Rattle.route_feed.proofs.Adding.{line_is}
 use Rattle.route_feed.proofs.Owned.{map_twice}
 use Rattle.route_feed.proofs.Reread.{first_line, is_cut, word_hop}

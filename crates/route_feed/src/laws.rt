@@ -3,10 +3,21 @@ ghost use Rattle.std.specs.Prelude.{◌≡◌, ◌↔◌, IsTrue};
 ghost use Rattle.route_feed.specs.declared.error.RunError.{RunError as AnyRunError};
 ghost use Rattle.route_feed.specs.declared.follower.FollowError.{FollowError as AnyFollowError};
 ghost use Rattle.route_feed.specs.InstallLaws.{BeginningsAreCarriedOut, BeginningsAreNotes, CutsAgree, InstalledAgrees, InstalledAtAllTimes, InstalledIsHitless, LogsAreFirst, OperationsReach, OutputAgrees, OutputIsGiven, OutputReadsBack, RepliesAreFewest, SyncsAreLeast, SyncsStay};
-ghost use Rattle.route_feed.specs.Laws.{AllAreAnswered, BeginningsAgree, BeginningsAreReplies, FlatListsAgree, LinesKeepHops, LinesRebuild, LinesStayLeast, NoHopsNoLines, OutputIsFollowed, RestartedAgree, SameFlatBytes, ShortenedAgree, ToldIsTable};
+ghost use Rattle.route_feed.specs.Laws.{AllAreAnswered, BeginningsAgree, BeginningsAreLines, BeginningsAreReplies, CommandsAreInRange, FlatListsAgree, LinesAgree, LinesKeepHops, LinesRebuild, LinesStayLeast, NoHopsNoLines, OutputIsFollowed, RestartedAgree, SameFlatBytes, ShortenedAgree, ToldIsTable};
 
 use crate::error::RunError;
 use crate::follower::FollowError;
+
+/// Take any of the first reply lines of a leader, as values, and make the changes of the replies among them that end with `ok`.
+///
+/// - `hops`: each address has the hop of the leader's table after as many commands as there are complete replies.
+/// - `commands`: the commands that bytes spell are in range, as `hops` asks of commands.
+/// - `written`: the reply lines in a beginning of the output, cut at any byte, have the changes and the closing lines of some first ones.
+pub fn reply_lines()
+    ensures hops { LinesAgree }
+    ensures commands { CommandsAreInRange }
+    ensures written { BeginningsAreLines }
+{}
 
 /// Take any beginning of a leader's output, cut at any byte, and make the changes of the replies in it that end with `ok`.
 ///
