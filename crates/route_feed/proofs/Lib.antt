@@ -28,6 +28,7 @@ pub mod ChangesInRange
 pub mod Installed
 pub mod ToldNotes
 pub mod NotesInTurn
+pub mod Moments
 pub mod KeptTable
 pub mod GivenLines
 pub mod SpelledLines

@@ -2,7 +2,7 @@
 ghost use Rattle.std.specs.Prelude.{◌≡◌, ◌↔◌, IsTrue};
 ghost use Rattle.route_feed.specs.declared.error.RunError.{RunError as AnyRunError};
 ghost use Rattle.route_feed.specs.declared.follower.FollowError.{FollowError as AnyFollowError};
-ghost use Rattle.route_feed.specs.InstallLaws.{BeginningsAreCarriedOut, BeginningsAreNotes, CutsAgree, InstalledAgrees, InstalledAtAllTimes, InstalledIsHitless, LogsAreFirst, OperationsReach, OutputAgrees, OutputIsGiven, OutputReadsBack, RepliesAreFewest, SyncsAreLeast, SyncsStay};
+ghost use Rattle.route_feed.specs.InstallLaws.{BeginningsAreCarriedOut, BeginningsAreNotes, CutsAgree, HitlessIsTurnsOnce, InstalledAgrees, InstalledAtAllTimes, InstalledIsHitless, InstalledTurnsOnce, LogsAreFirst, OperationsReach, OutputAgrees, OutputIsGiven, OutputReadsBack, RepliesAreFewest, SyncsAreLeast, SyncsStay};
 ghost use Rattle.route_feed.specs.Laws.{AllAreAnswered, BeginningsAgree, BeginningsAreLines, BeginningsAreReplies, CommandsAreInRange, FlatListsAgree, LinesAgree, LinesKeepHops, LinesRebuild, LinesStayLeast, NoHopsNoLines, OutputIsFollowed, RestartedAgree, SameFlatBytes, ShortenedAgree, ToldIsTable};
 
 use crate::error::RunError;
@@ -69,6 +69,9 @@ pub fn shortened()
 ///
 /// Take any lines that an installer reads:
 ///
+/// - `turns`: after a `sync`, each address turns at one moment of a line. Before it, it has the hop that the replies before the line
+///   commit, and from it on that of the replies with the line.
+/// - `moments`: operations are hitless exactly if each address turns at one moment.
 /// - `hitless`: the operations of one line change the hop of each address at most once.
 /// - `reaches`: the operations of a line turn the table installed before it into the table installed after it.
 /// - `fewest`: after a `sync`, the operations at an `ok` are the fewest of all that bring each address to its committed hop.
@@ -77,6 +80,8 @@ pub fn shortened()
 pub fn installed()
     ensures hops { InstalledAgrees }
     ensures times { InstalledAtAllTimes }
+    ensures turns { InstalledTurnsOnce }
+    ensures moments { HitlessIsTurnsOnce }
     ensures hitless { InstalledIsHitless }
     ensures reaches { OperationsReach }
     ensures fewest { RepliesAreFewest }
