@@ -14,6 +14,8 @@ pub mod Seam
 pub mod ReadLines
 pub mod ReadNets
 pub mod Reread
+pub mod Splits
+pub mod OneHop
 pub mod SameBytes
 pub mod Replies
 pub mod Values

@@ -2,8 +2,9 @@
 ghost use Rattle.std.specs.Prelude.{◌≡◌, ◌↔◌, IsTrue};
 ghost use Rattle.route_feed.specs.declared.error.RunError.{RunError as AnyRunError};
 ghost use Rattle.route_feed.specs.declared.follower.FollowError.{FollowError as AnyFollowError};
+ghost use Rattle.route_feed.specs.Counted.{MoreByIsMin};
 ghost use Rattle.route_feed.specs.InstallLaws.{BeginningsAreCarriedOut, BeginningsAreNotes, CutsAgree, HitlessIsTurnsOnce, InstalledAgrees, InstalledAtAllTimes, InstalledIsHitless, InstalledTurnsOnce, LogsAreFirst, OperationsReach, OutputAgrees, OutputIsGiven, OutputReadsBack, RepliesAreFewest, SyncsAreLeast, SyncsStay};
-ghost use Rattle.route_feed.specs.Laws.{AllAreAnswered, BeginningsAgree, BeginningsAreLines, BeginningsAreReplies, CommandsAreInRange, FlatListsAgree, LinesAgree, LinesKeepHops, LinesRebuild, LinesStayLeast, NoHopsNoLines, OutputIsFollowed, RestartedAgree, SameFlatBytes, ShortenedAgree, ToldIsTable};
+ghost use Rattle.route_feed.specs.Laws.{AllAreAnswered, BeginningsAgree, BeginningsAreLines, BeginningsAreReplies, ChangesHaveOneHop, CommandsAreInRange, FlatListsAgree, LinesAgree, LinesKeepHops, LinesRebuild, LinesStayLeast, NoHopsNoLines, OutputIsFollowed, RestartedAgree, SameFlatBytes, ShortenedAgree, SplitIsLines, ToldIsTable};
 
 use crate::error::RunError;
 use crate::follower::FollowError;
@@ -13,10 +14,19 @@ use crate::follower::FollowError;
 /// - `hops`: each address has the hop of the leader's table after as many commands as there are complete replies.
 /// - `commands`: the commands that bytes spell are in range, as `hops` asks of commands.
 /// - `written`: the reply lines in a beginning of the output, cut at any byte, have the changes and the closing lines of some first ones.
+/// - `changes`: a line of a change has the hop of every address of its block.
+/// - `split`: the lines of bytes and the rest are the only pieces without a line end that make them.
 pub fn reply_lines()
     ensures hops { LinesAgree }
     ensures commands { CommandsAreInRange }
     ensures written { BeginningsAreLines }
+    ensures changes { ChangesHaveOneHop }
+    ensures split { SplitIsLines }
+{}
+
+/// Counts of flushes, as in the contracts of runs: a count and `times` more are their sum, up to the greatest u64.
+pub fn counts()
+    ensures { MoreByIsMin }
 {}
 
 /// Take any beginning of a leader's output, cut at any byte, and make the changes of the replies in it that end with `ok`.
