@@ -41,11 +41,11 @@ pub fn mirrored(alloc: Global, input: &[u8], cut: usize) -> Result<(Vec<u8>, Vec
     Ok((told, out.into_inner()))
 }
 
-/// The two chapters of the main theorem together. Any first reply lines of a leader, as values, give each address its hop, and the whole
-/// lines of a log, cut at any byte, are such lines.
+/// The two chapters of the main theorem together. Any first reply lines of a leader, as values, give each address its hop. The whole
+/// lines of a log, cut at any byte, have the changes of such lines.
 pub fn cut_anywhere()
-    ensures { (bytes front back : List ℕ) (refusals : List Bool) → output bytes refusals ≡ front ++ back → (x : Address) → IsAddress x
-        → painted (committed (replies_in front)) x ≡ hop_at (routes_of (table_told bytes refusals front)) x }
+    ensures { (bytes front back : List ℕ) (refusals : List Bool) → output bytes refusals ≡ front ++ back
+        → (x : Address) → IsAddress x → painted (committed (replies_in front)) x ≡ hop_at (routes_of (table_told bytes refusals front)) x }
 {
     reply_lines();
 }

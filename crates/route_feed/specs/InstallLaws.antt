@@ -75,7 +75,7 @@ TurnsOnce M os x old new = (moment : ℕ) × ((i : ℕ) → i < moment → hop_a
 abbrev pub HitlessIsTurnsOnce : Type 0
 HitlessIsTurnsOnce = (M : List Route) (os : List Operation) → IsHitless M os ↔ ((x : Address) → IsAddress x → TurnsOnce M os x (hop_at M x) (hop_at (after_all M os) x))
 
--- after a `sync`, each address turns at one moment of a note, from the hop that the replies before the note commit to that of the replies with it
+-- after a `sync`, each address turns at one moment of a note, from the hop that the replies before it commit to that with its own
 abbrev pub InstalledTurnsOnce : Type 0
 InstalledTurnsOnce = (ns : List Noted) (n : Noted) → MayAllCome start (events begin (ns ++ n ∷ [])) → HasSync ns → (x : Address) → IsAddress x
     → TurnsOnce (installed_by ns) (operations_at ns n) x (painted (committed (replies_of ns)) x) (painted (committed (replies_of (ns ++ n ∷ []))) x)

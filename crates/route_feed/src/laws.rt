@@ -13,7 +13,7 @@ use crate::follower::FollowError;
 ///
 /// - `hops`: each address has the hop of the leader's table after as many commands as there are complete replies.
 /// - `commands`: the commands that bytes spell are in range, as `hops` asks of commands.
-/// - `written`: the reply lines in a beginning of the output, cut at any byte, have the changes and the closing lines of some first ones.
+/// - `written`: the reply lines in a beginning of the output, cut at any byte, have the changes and closing lines of some first ones.
 /// - `changes`: a line of a change has the hop of every address of its block.
 /// - `split`: the lines of bytes and the rest are the only pieces without a line end that make them.
 pub fn reply_lines()
@@ -79,8 +79,8 @@ pub fn shortened()
 ///
 /// Take any lines that an installer reads:
 ///
-/// - `turns`: after a `sync`, each address turns at one moment of a line. Before it, it has the hop that the replies before the line
-///   commit, and from it on that of the replies with the line.
+/// - `turns`: after a `sync`, each address turns at one moment of a line. Before this moment it has the hop that the replies before the
+///   line commit, and from it on that of the replies with the line.
 /// - `moments`: operations are hitless exactly if each address turns at one moment.
 /// - `hitless`: the operations of one line change the hop of each address at most once.
 /// - `reaches`: the operations of a line turn the table installed before it into the table installed after it.
