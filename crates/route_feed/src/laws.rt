@@ -14,19 +14,24 @@ use crate::follower::FollowError;
 /// - `hops`: each address has the hop of the leader's table after as many commands as there are complete replies.
 /// - `commands`: the commands that bytes spell are in range, as `hops` asks of commands.
 /// - `written`: the reply lines in a beginning of the output, cut at any byte, have the changes and closing lines of some first ones.
-/// - `changes`: a line of a change has the hop of every address of its block.
-/// - `split`: the lines of bytes and the rest are the only pieces without a line end that make them.
 pub fn reply_lines()
     ensures hops { LinesAgree }
     ensures commands { CommandsAreInRange }
     ensures written { BeginningsAreLines }
-    ensures changes { ChangesHaveOneHop }
-    ensures split { SplitIsLines }
 {}
 
-/// Counts of flushes, as in the contracts of runs: a count and `times` more are their sum, up to the greatest u64.
-pub fn counts()
-    ensures { MoreByIsMin }
+/// The meaning of some definitions.
+///
+/// - `changes`: the lines of a change of one network's routes are those of its maximal blocks, each with the hop of every address of the
+///   block.
+/// - `split`: the lines of bytes and the rest are the only pieces without a line end that make them.
+/// - `moments`: operations are hitless exactly if each address turns at one moment.
+/// - `counts`: a count and some more are their sum, up to the greatest u64.
+pub fn meanings()
+    ensures changes { ChangesHaveOneHop }
+    ensures split { SplitIsLines }
+    ensures moments { HitlessIsTurnsOnce }
+    ensures counts { MoreByIsMin }
 {}
 
 /// Take any beginning of a leader's output, cut at any byte, and make the changes of the replies in it that end with `ok`.
@@ -81,7 +86,6 @@ pub fn shortened()
 ///
 /// - `turns`: after a `sync`, each address turns at one moment of a line. Before this moment it has the hop that the replies before the
 ///   line commit, and from it on that of the replies with the line.
-/// - `moments`: operations are hitless exactly if each address turns at one moment.
 /// - `hitless`: the operations of one line change the hop of each address at most once.
 /// - `reaches`: the operations of a line turn the table installed before it into the table installed after it.
 /// - `fewest`: after a `sync`, the operations at an `ok` are the fewest of all that bring each address to its committed hop.
@@ -91,7 +95,6 @@ pub fn installed()
     ensures hops { InstalledAgrees }
     ensures times { InstalledAtAllTimes }
     ensures turns { InstalledTurnsOnce }
-    ensures moments { HitlessIsTurnsOnce }
     ensures hitless { InstalledIsHitless }
     ensures reaches { OperationsReach }
     ensures fewest { RepliesAreFewest }

@@ -1,6 +1,4 @@
 use Rattle.route_feed.proofs.Beginnings.{beginnings_are_lines, commands_are_in_range}
-use Rattle.route_feed.proofs.OneHop.{changes_have_one_hop}
-use Rattle.route_feed.proofs.Splits.{split_is_lines}
 use Rattle.route_feed.proofs.Values.{lines_agree}
 use Rattle.route_feed.proofs.laws.reply_lines.Goals as goal
 
@@ -12,9 +10,3 @@ returns-clause-commands c = commands_are_in_range
 
 pub returns-clause-written : goal.returns-clause-written
 returns-clause-written c = beginnings_are_lines
-
-pub returns-clause-changes : goal.returns-clause-changes
-returns-clause-changes c = changes_have_one_hop
-
-pub returns-clause-split : goal.returns-clause-split
-returns-clause-split c = split_is_lines

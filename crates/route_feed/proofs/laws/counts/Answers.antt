@@ -1,5 +1,0 @@
-use Rattle.route_feed.proofs.Written.{more_by_is_min}
-use Rattle.route_feed.proofs.laws.counts.Goals as goal
-
-pub returns : goal.returns
-returns c = more_by_is_min
