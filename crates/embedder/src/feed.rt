@@ -7,7 +7,7 @@ ghost use Rattle.route_feed.specs.Laws.{table_told};
 ghost use Rattle.route_feed.specs.Output.{output};
 ghost use Rattle.route_feed.specs.Replies.{printed};
 ghost use Rattle.route_feed.specs.Steps.{flat_line};
-ghost use Rattle.route_feed.specs.Streams.{replies_in};
+ghost use Rattle.route_feed.specs.Streams.{committed, painted, replies_in};
 ghost use Rattle.route_lines.specs.Bytes.{lines};
 ghost use Rattle.route_lines.specs.declared.reply.Closing.TheVariants.{Done};
 ghost use Rattle.route_lines.specs.declared.reply.Reply.TheVariants.{Close};
@@ -16,7 +16,7 @@ ghost use Rattle.route_laws.specs.Networks.{routes_of};
 ghost use Rattle.route_laws.specs.Runs.{haves};
 ghost use Rattle.route_laws.specs.Tables.{hop_at};
 
-use route_feed::laws::{carried_out, followed};
+use route_feed::laws::{carried_out, followed, reply_lines};
 use route_feed::{Counted, RunError, follow, install, lead};
 use route_table::laws::one_route;
 use std::alloc::Global;
@@ -39,6 +39,15 @@ pub fn mirrored(alloc: Global, input: &[u8], cut: usize) -> Result<(Vec<u8>, Vec
     let mut out = Counted::new(Vec::new(alloc));
     follow(alloc, &mut tail, &mut out)?;
     Ok((told, out.into_inner()))
+}
+
+/// The two chapters of the main theorem together. Any first reply lines of a leader, as values, give each address its hop. The whole
+/// lines of a log, cut at any byte, have the changes of such lines.
+pub fn cut_anywhere()
+    ensures { (bytes front back : List ℕ) (refusals : List Bool) → output bytes refusals ≡ front ++ back
+        → (x : Address) → IsAddress x → painted (committed (replies_in front)) x ≡ hop_at (routes_of (table_told bytes refusals front)) x }
+{
+    reply_lines();
 }
 
 /// Returns the output of an installer for a log. Suppose that the log has a `sync`, and that its reply lines are those of a beginning of

@@ -28,10 +28,11 @@ use Rattle.route_feed.specs.Output.{replies, refusals_after, whole_commands, at_
 use Rattle.route_feed.specs.Replies.{printed}
 use Rattle.route_feed.specs.InnerReplies.{choice_line, own_line}
 use Rattle.route_feed.specs.Steps as steps
-use Rattle.route_feed.proofs.Beginnings.{AreInRange, all_in_range, commands_of, empty_is_table, first_lines, replies_clean}
+use Rattle.route_feed.proofs.Beginnings.{all_in_range, commands_of, first_lines, replies_clean}
 use Rattle.route_feed.proofs.Reread.{AreClean, AreTold, IsSmall, first_line}
 use Rattle.route_feed.proofs.ReadLines.{of_replies, read_is}
 use Rattle.route_feed.proofs.Replies.{form_step}
+use Rattle.route_feed.proofs.Values.{AreInRange, empty_is_table}
 
 -- ---- lines that spell what they print
 

@@ -1,6 +1,7 @@
 -- What is installed has the hops of the leader, turns no address twice, and is least after a `sync`.
 use Rattle.std.proofs.Common.{◌≡◌, ◌⊎◌, ℕ, Bool, true, false, cond, List, Option, [], ◌∷◌, ◌++◌, map, take, None, inl, inr, ⊎_elim, refl, sym, ap, ◌∙◌, subst, arith, append_assoc, append-nil}
 use Rattle.std.specs.Option.{option_map_or}
+use Rattle.std.proofs.lemmas.Bool.{cases_lt}
 use Rattle.ipnet_addr.specs.Addresses.{Address, IsAddress}
 use Rattle.ipnet.specs.declared.ip_net.IpNet.{IpNet}
 use Rattle.route_choices.specs.Choices.{default_preference}
@@ -20,9 +21,10 @@ use Rattle.route_laws.proofs.Families.{least_too}
 use Rattle.route_laws.proofs.Runs.{Holds, holds, gives_hitless, gives_what_it_says, given_reaches, keeps_hops, sync_is_least, sync_stays, told_is_fewest}
 use Rattle.route_laws.proofs.Turning.{hitless_from}
 use Rattle.route_feed.specs.Installing.{Installing, Noted, after_note, after_notes, begin, committing, event_of, events, route_to}
-use Rattle.route_feed.specs.InstallLaws.{AreFirst, HasSync, InstalledAgrees, InstalledAtAllTimes, InstalledIsHitless, IsNoHave, OperationsReach, RepliesAreFewest, SyncsAreLeast, SyncsStay, installed_by, operations_at, replies_of, table_by}
+use Rattle.route_feed.specs.InstallLaws.{AreFirst, HasSync, InstalledAgrees, InstalledAtAllTimes, InstalledIsHitless, InstalledTurnsOnce, IsNoHave, OperationsReach, RepliesAreFewest, SyncsAreLeast, SyncsStay, TurnsOnce, installed_by, operations_at, replies_of, table_by}
 use Rattle.route_feed.specs.Streams.{Change, closes, committed, ends_well, painted, is_done}
-use Rattle.route_feed.proofs.Beginnings.{all_in_range, commands_of, empty_is_table, followed, output_read}
+use Rattle.route_feed.proofs.Beginnings.{followed}
+use Rattle.route_feed.proofs.Moments.{hitless_is_turns_once}
 use Rattle.route_feed.proofs.NotesInTurn.{after_events-append, events-append, is_kept, kept_later, may_split, replies_of-append, tables_after}
 use Rattle.route_feed.proofs.ToldNotes.{committed_from, told_notes}
 
@@ -39,16 +41,20 @@ nothing_before ls = go (ends_well ls)
 told_is_committed : (ns : List Noted) (x : Address) → told None (events begin ns) x ≡ painted (committed (replies_of ns)) x
 told_is_committed ns x = told_notes x ns begin None ∙ ap (λ cs. painted cs x) (nothing_before (replies_of ns))
 
--- once the table is kept
+-- once the table is kept, its hops are those that the reply lines commit
+pub kept_hops : (ns : List Noted) → MayAllCome start (events begin ns) → Installer.kept (after_events start (events begin ns)) ≡ true
+    → (x : Address) → IsAddress x → hop_at (installed_by ns) x ≡ painted (committed (replies_of ns)) x
+kept_hops ns may kept x a =
+    let es = events begin ns in
+    ap (λ M. hop_at M x) (given_reaches es may) ∙ keeps_hops es may kept x a ∙ told_is_committed ns x
+
+-- those of the leader, if its lines come first
+first_hops : (bytes : List ℕ) (refusals : List Bool) (ls : List Reply) → AreFirst bytes refusals ls → (x : Address) → IsAddress x → painted (committed ls) x ≡ hop_at (routes_of (table_by bytes refusals ls)) x
+first_hops bytes refusals ls first x a = let (later, split) = first in followed bytes refusals ls later (sym split) x a
+
 pub kept_agrees : (bytes : List ℕ) (refusals : List Bool) (ns : List Noted) → AreFirst bytes refusals (replies_of ns) → MayAllCome start (events begin ns)
     → Installer.kept (after_events start (events begin ns)) ≡ true → (x : Address) → IsAddress x → hop_at (installed_by ns) x ≡ hop_at (routes_of (table_by bytes refusals (replies_of ns))) x
-kept_agrees bytes refusals ns first may kept x a =
-    let es = events begin ns in
-    let (later, split) = first in
-    ap (λ M. hop_at M x) (given_reaches es may)
-    ∙ keeps_hops es may kept x a
-    ∙ told_is_committed ns x
-    ∙ followed [] (commands_of bytes) refusals (replies_of ns) later empty_is_table (all_in_range bytes) (sym split ∙ output_read bytes refusals) x a
+kept_agrees bytes refusals ns first may kept x a = kept_hops ns may kept x a ∙ first_hops bytes refusals (replies_of ns) first x a
 
 pub installed_agrees : InstalledAgrees
 installed_agrees bytes refusals ns first may has x a = kept_agrees bytes refusals ns first may (is_kept ns has) x a
@@ -170,6 +176,20 @@ kept_no_have ns n may kept net hop e =
     let both = sym k ∙ kept in
     cc
 
+-- so at a note each address turns from the hop that the replies before it commit to that of the replies with it
+pub kept_turns : (ns : List Noted) (n : Noted) → MayAllCome start (events begin (ns ++ n ∷ [])) → Installer.kept (after_events start (events begin ns)) ≡ true → (x : Address) → IsAddress x
+    → TurnsOnce (installed_by ns) (operations_at ns n) x (painted (committed (replies_of ns)) x) (painted (committed (replies_of (ns ++ n ∷ []))) x)
+kept_turns ns n may kept x a =
+    let M = installed_by ns in
+    let os = operations_at ns n in
+    let still = ap (λ fs. Installer.kept (after_events start fs)) (whole ns [] n ∙ append-nil (es ns [] n ++ now ns [] n)) ∙ kept_later start (es ns [] n) (now ns [] n) kept in
+    subst (λ old. TurnsOnce M os x old (painted (committed (replies_of (ns ++ n ∷ []))) x)) (kept_hops ns (may_before ns [] n may) kept x a)
+    (subst (TurnsOnce M os x (hop_at M x)) (ap (λ N. hop_at N x) (operations_reach ns n may (kept_no_have ns n may kept)) ∙ kept_hops (ns ++ n ∷ []) may still x a)
+    ((hitless_is_turns_once M os).0 (installed_is_hitless ns n may) x a))
+
+pub installed_turns_once : InstalledTurnsOnce
+installed_turns_once ns n may has x a = kept_turns ns n may (is_kept ns has) x a
+
 module _ (bytes : List ℕ) (refusals : List Bool) (ns later : List Noted) (n : Noted) (first : AreFirst bytes refusals (replies_of (ns ++ n ∷ later))) (may : MayAllCome start (events begin (ns ++ n ∷ later))) where
   pub kept_at_all_times : Installer.kept (after_events start (events begin ns)) ≡ true → (x : Address) → IsAddress x → (i : ℕ)
       → (hop_at (after_all (installed_by ns) (take i (operations_at ns n))) x ≡ hop_at (routes_of (table_by bytes refusals (replies_of ns))) x)
@@ -178,11 +198,11 @@ module _ (bytes : List ℕ) (refusals : List Bool) (ns later : List Noted) (n : 
       let t = first_too bytes refusals ns (n ∷ later) first in
       let u = first_too bytes refusals (ns ++ n ∷ []) later (subst (λ ls. AreFirst bytes refusals (replies_of ls)) (sym (append_assoc ns (n ∷ []) later)) first) in
       let m = subst (MayAllCome start) (sym (whole ns [] n ∙ append-nil (es ns [] n ++ now ns [] n))) (may_now ns later n may) in
-      let still = ap (λ fs. Installer.kept (after_events start fs)) (whole ns [] n ∙ append-nil (es ns [] n ++ now ns [] n)) ∙ kept_later start (es ns [] n) (now ns [] n) kept in
+      let (moment, before, from) = kept_turns ns n m kept x a in
       ⊎_elim
-      (λ e. inl (e ∙ kept_agrees bytes refusals ns t (may_before ns later n may) kept x a))
-      (λ e. inr (e ∙ ap (λ M. hop_at M x) (operations_reach ns n m (kept_no_have ns n m kept)) ∙ kept_agrees bytes refusals (ns ++ n ∷ []) u m still x a))
-      (IsHitless.turns (installed_is_hitless ns n m) x a i i (omega arith))
+      (λ lt. inl (before i lt ∙ first_hops bytes refusals (replies_of ns) t x a))
+      (λ ge. inr (from i (omega (arith, ge)) ∙ first_hops bytes refusals (replies_of (ns ++ n ∷ [])) u x a))
+      (cases_lt i moment)
 
 pub installed_at_all_times : InstalledAtAllTimes
 installed_at_all_times bytes refusals ns later n first may has x a i = kept_at_all_times bytes refusals ns later n first may (is_kept ns has) x a i

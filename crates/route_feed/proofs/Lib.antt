@@ -14,8 +14,11 @@ pub mod Seam
 pub mod ReadLines
 pub mod ReadNets
 pub mod Reread
+pub mod Splits
+pub mod OneHop
 pub mod SameBytes
 pub mod Replies
+pub mod Values
 pub mod Beginnings
 pub mod Grammar
 pub mod Rebuilt
@@ -27,6 +30,7 @@ pub mod ChangesInRange
 pub mod Installed
 pub mod ToldNotes
 pub mod NotesInTurn
+pub mod Moments
 pub mod KeptTable
 pub mod GivenLines
 pub mod SpelledLines

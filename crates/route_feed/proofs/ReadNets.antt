@@ -21,6 +21,7 @@ use Rattle.route_choices.specs.declared.hop.Hop.{Hop}
 use Rattle.route_choices.specs.declared.hop.Hop.TheVariants.{Number, Drop}
 use Rattle.route_laws.proofs.NetworksAt.{of_network_at}
 use Rattle.route_feed.specs.InnerLines.{command_in}
+use Rattle.route_feed.specs.Laws.{IsInRange}
 use Rattle.route_feed.specs.Output.{whole_commands}
 use Rattle.route_feed.proofs.ReadLines.{of_commands, piece_spells}
 
@@ -39,21 +40,6 @@ optional_in_range text hop None h = (hop_is_hop text hop h, omega arith)
 
 preferred_in_range : (text : List ℕ) (hop : Hop) (pref : ℕ) → word.IsPreferred text (hop, pref) → IsHop hop × (pref < 2 ^ 16)
 preferred_in_range text hop pref h = (let r = optional_in_range text hop h.0 h.1 in (r.0, omega (arith, h.2, r.1)))
-
--- a command that changes the table or asks for all routes of a network has a network, and an `add` a hop and a preference, in range
-abbrev pub IsInRange : Option Command → Type 0
-IsInRange None = Unit {0}
-IsInRange (Some (C.Add net hop pref)) = IsBlock (block net) × IsHop hop × (pref < 2 ^ 16)
-IsInRange (Some (C.Del net hop)) = IsBlock (block net)
-IsInRange (Some (C.Get net)) = Unit {0}
-IsInRange (Some (C.Cover net)) = Unit {0}
-IsInRange (Some (C.List net)) = Unit {0}
-IsInRange (Some (C.All net)) = IsBlock (block net)
-IsInRange (Some (C.PageFrom net limit)) = Unit {0}
-IsInRange (Some (C.PageAfter net limit)) = Unit {0}
-IsInRange (Some (C.Own number)) = Unit {0}
-IsInRange (Some C.Count) = Unit {0}
-IsInRange (Some C.Flat) = Unit {0}
 
 spelled_in_range : (text : List ℕ) (o : Option Command) → Gives IsCommand text o → IsInRange o
 spelled_in_range text None h = tt

@@ -1,5 +1,5 @@
 -- A leader that is given the lines that add the routes of a table.
-use Rattle.std.proofs.Common.{◌≡◌, ◌≢◌, ℕ, ◌≤◌, inl, inr, ⊎_elim, Bool, true, false, cond, List, [], ◌∷◌, ◌++◌, drop, length, map, Some, refl, sym, ap, ◌∙◌, subst, append_assoc, append-nil, arith}
+use Rattle.std.proofs.Common.{◌≡◌, ◌≢◌, ◌≤◌, inl, inr, ⊎_elim, Bool, true, false, cond, List, [], ◌∷◌, ◌++◌, drop, length, map, Some, refl, sym, ap, ◌∙◌, subst, append_assoc, append-nil, arith}
 use Rattle.std.specs.List.{AllByRecursion}
 use Rattle.std.proofs.lemmas.List.{length-map}
 use Rattle.std.proofs.lemmas.List.Elements.{recursion_from_All}
@@ -8,7 +8,7 @@ use Rattle.ipnet_addr.proofs.Ascending.{In-from_All, Rising, Rising-from_pairs}
 use Rattle.ipnet_blocks.specs.Blocks.{IsBlock, IsBefore}
 use Rattle.ipnet.proofs.Spelled.{net_reads}
 use Rattle.ipnet.specs.IpNets.{network_at}
-use Rattle.route_lines.specs.Bytes.{lines, rest, if_no_piece}
+use Rattle.route_lines.specs.Bytes.{lines, rest}
 use Rattle.route_lines.specs.CommandText.{command_text}
 use Rattle.route_lines.specs.Spelled.{command_of}
 use Rattle.route_lines.specs.Texts.{IsCommand}
@@ -28,19 +28,16 @@ use Rattle.route_feed.specs.Output.{at_end, table_after, whole_commands}
 use Rattle.route_feed.specs.Steps.{Answer, is_too_many, may_refuse, step}
 use Rattle.route_feed.specs.Streams.{committed, painted, replies_in}
 use Rattle.route_feed.specs.InnerLines.{add_command}
-use Rattle.route_feed.proofs.Beginnings.{beginnings_agree, empty_is_table}
+use Rattle.route_feed.proofs.Beginnings.{beginnings_agree}
+use Rattle.route_feed.proofs.Values.{empty_is_table}
 use Rattle.route_feed.proofs.Adding.{line_is}
 use Rattle.route_feed.proofs.Owned.{map_twice}
 use Rattle.route_feed.proofs.Reread.{first_line, is_cut, word_hop}
 use Rattle.route_feed.proofs.ReadLines.{of_commands, read_is}
+use Rattle.route_feed.proofs.Splits.{rest_after}
 use Rattle.route_feed.proofs.Told.{plain_step}
 
 -- ---- the lines
-
--- after a line come the rest of the bytes
-rest_after : (text bytes : List ℕ) → AllByRecursion (λ c. c ≢ 10) text → rest (text ++ 10 ∷ bytes) ≡ rest bytes
-rest_after [] bytes h = refl
-rest_after (c ∷ cs) bytes h = ap (λ ps. if_no_piece ps (c ∷ cs ++ 10 ∷ bytes) (rest (cs ++ 10 ∷ bytes))) (first_line (c ∷ cs) bytes h) ∙ rest_after cs bytes h.1
 
 -- routes that can be printed
 abbrev AreRoutes : List Route → Type 0

@@ -31,7 +31,7 @@ use Rattle.route_feed.proofs.Owned.{map_twice}
 use Rattle.route_feed.specs.Steps.{Answer, closed, told, change_line, change_lines, changed_to, route_line, flat_line, is_too_many, may_refuse, accepted, step}
 use Rattle.route_feed.specs.Streams.{Change, change_of, is_done, painted_over}
 use Rattle.route_feed.specs.InnerReplies.{choice_line, own_line}
-use Rattle.route_feed.proofs.ReadNets.{IsInRange}
+use Rattle.route_feed.specs.Laws.{IsInRange}
 use Rattle.route_feed.proofs.Reread.{IsTold, AreTold, AreTold-map, route_told, piece_told, change_told, count_told, own_told}
 use Rattle.route_feed.proofs.Seam.{changes_in, change_painted}
 

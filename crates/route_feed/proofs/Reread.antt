@@ -1,6 +1,6 @@
 -- Lines that are printed, and what is read of them again.
 use Rattle.std.proofs.Common.{inl, inr, ◌≡◌, ◌≢◌, ℕ, zero, suc, ◌+◌, ◌/◌, ◌%◌, ◌≤◌, ◌<◌, ◌^◌, ◌==◌, nat_lt, Bool, true, false, cond, List, [], ◌∷◌, ◌++◌, get_or, map, codes, decimal, All, Option, Some, None, refl, sym, ap, ◌∙◌, subst, arith, append_assoc}
-use Rattle.std.specs.List.{filter_map, cons_option, AllByRecursion}
+use Rattle.std.specs.List.{filter_map, AllByRecursion}
 use Rattle.std.specs.Fmt.{digits, digits_onto, digit_glyph}
 use Rattle.std.proofs.lemmas.Bool.Decides.{nat_tests}
 use Rattle.std.proofs.lemmas.List.Elements.{All-append, All-nil, All-cons, recursion_from_All, filter_map-append}
@@ -35,7 +35,6 @@ use Rattle.route_laws.proofs.Matches.{match_meets}
 use Rattle.route_feed.specs.Replies.{printed}
 use Rattle.route_feed.specs.Steps.{change_line}
 use Rattle.route_feed.specs.Streams.{change_of, closes, replies_in}
-use Rattle.route_feed.proofs.Seam.{changes_in}
 
 -- ---- what is read of printed lines
 
@@ -46,12 +45,15 @@ abbrev pub IsClean : Reply → Type 0
 IsClean l = All (λ c. c ≢ 10) (reply_text l)
 
 abbrev pub AreClean : List Reply → Type 0
-AreClean [] = Unit {0}
-AreClean (l ∷ ls) = IsClean l × AreClean ls
+AreClean ls = AllByRecursion IsClean ls
 
-pub AreClean-append : (ls ms : List Reply) → AreClean ls → AreClean ms → AreClean (ls ++ ms)
-AreClean-append [] ms p q = q
-AreClean-append (l ∷ ls) ms p q = (p.0, AreClean-append ls ms p.1 q)
+pub each-append : {A : Type 0} (P : A → Type 0) (xs ys : List A) → AllByRecursion P xs → AllByRecursion P ys → AllByRecursion P (xs ++ ys)
+each-append P [] ys p q = q
+each-append P (x ∷ xs) ys p q = (p.0, each-append P xs ys p.1 q)
+
+pub each-first : {A : Type 0} (P : A → Type 0) (xs ys : List A) → AllByRecursion P (xs ++ ys) → AllByRecursion P xs
+each-first P [] ys p = tt
+each-first P (x ∷ xs) ys p = (p.0, each-first P xs ys p.1)
 
 pub first_line : (text bytes : List ℕ) → AllByRecursion (λ c. c ≢ 10) text → lines (text ++ 10 ∷ bytes) ≡ text ∷ lines bytes
 first_line [] bytes h = refl
@@ -70,10 +72,13 @@ read_again (l ∷ ls) h =
 
 -- ---- lines of a reply
 
--- what is read of a line closes no reply, and tells the same change
+-- what is read of a line closes a reply as the line does, and tells the same change
 abbrev pub Keeps : Reply → Option Reply → Type 0
-Keeps l None = change_of l ≡ None
-Keeps l (Some m) = (closes m ≡ None) × (change_of m ≡ change_of l)
+Keeps l None = (closes l ≡ None) × (change_of l ≡ None)
+Keeps l (Some m) = (closes m ≡ closes l) × (change_of m ≡ change_of l)
+
+abbrev pub IsKept : Reply → Type 0
+IsKept l = Keeps l (reply_of (reply_text l))
 
 -- numbers of routes that a line can spell
 abbrev pub IsSmall : Reply → Type 0
@@ -88,7 +93,8 @@ IsSmall (R.Close closing) = Unit {0}
 pub record IsTold (l : Reply) : Type 0 where
   pub clean : IsClean l
   pub spelled : IsSmall l → IsReply (reply_text l) l
-  pub kept : Keeps l (reply_of (reply_text l))
+  pub kept : IsKept l
+  pub is_open : closes l ≡ None
 
 abbrev pub AreTold : List Reply → Type 0
 AreTold [] = Unit {0}
@@ -98,33 +104,20 @@ pub AreTold-map : {A : Type 0} (f : A → Reply) (xs : List A) → ((x : A) → 
 AreTold-map f [] h = tt
 AreTold-map f (x ∷ xs) h = (h x (inl refl), AreTold-map f xs (λ y i. h y (inr i)))
 
-pub told_is_clean : (ls : List Reply) → AreTold ls → AreClean ls
-told_is_clean [] h = tt
-told_is_clean (l ∷ ls) h = (h.0.clean, told_is_clean ls h.1)
-
 -- none of the lines closes a reply
 abbrev pub AreOpen : List Reply → Type 0
 AreOpen [] = Unit {0}
 AreOpen (l ∷ ls) = (closes l ≡ None) × AreOpen ls
 
-pub reread_open : (ls : List Reply) → AreTold ls → AreOpen (reread ls)
-reread_open [] h = tt
-reread_open (l ∷ ls) h = go (reply_of (reply_text l)) h.0.kept (reread_open ls h.1)
-  where
-    go : (o : Option Reply) → Keeps l o → AreOpen (reread ls) → AreOpen (cons_option o (reread ls))
-    go None k later = later
-    go (Some m) k later = (k.0, later)
-
-pub reread_changes : (ls : List Reply) → AreTold ls → changes_in (reread ls) ≡ changes_in ls
-reread_changes [] h = refl
-reread_changes (l ∷ ls) h = go (reply_of (reply_text l)) h.0.kept (reread_changes ls h.1)
-  where
-    go : (o : Option Reply) → Keeps l o → changes_in (reread ls) ≡ changes_in ls → changes_in (cons_option o (reread ls)) ≡ changes_in (l ∷ ls)
-    go None k later = rw k later
-    go (Some m) k later = rw k.1 (ap (cons_option (change_of l)) later)
+pub are_open : (ls : List Reply) → AreTold ls → AreOpen ls
+are_open [] h = tt
+are_open (l ∷ ls) h = (h.0.is_open, are_open ls h.1)
 
 pub closing_read : (closing : Closing) → reply_of (closing_text closing) ≡ Some (R.Close closing)
 closing_read closing = read_is of_replies (closing_text closing) (R.Close closing) refl
+
+pub closing_is_kept : (closing : Closing) → IsKept (R.Close closing)
+closing_is_kept closing = subst (Keeps (R.Close closing)) (sym (closing_read closing)) (refl, refl)
 
 pub closing_is_clean : (closing : Closing) → IsClean (R.Close closing)
 closing_is_clean closing = replies.clean (closing_text closing) (R.Close closing) refl
@@ -133,7 +126,8 @@ told_if_read : (l : Reply) → closes l ≡ None → IsReply (reply_text l) l �
 told_if_read l none h = record {
   clean = replies.clean (reply_text l) l h;
   spelled = λ _. h;
-  kept = subst (Keeps l) (sym (read_is of_replies (reply_text l) l h)) (none, refl);
+  kept = subst (Keeps l) (sym (read_is of_replies (reply_text l) l h)) (refl, refl);
+  is_open = none;
 }
 
 -- ---- networks, hops and numbers
@@ -242,8 +236,9 @@ module _ (v4 v6 : ℕ) where
         (decimal_clean v6);
     spelled = prints count tt;
     kept = go (reply_of (reply_text count)) (reply_found (reply_text count));
+    is_open = refl;
   }
     where
       go : (o : Option Reply) → Gives IsReply (reply_text count) o → Keeps count o
-      go None h = refl
+      go None h = (refl, refl)
       go (Some r) h = (first_is r h, no_change r h)

@@ -15,9 +15,10 @@ use Rattle.route_feed.specs.Laws.{RestartedAgree, ToldIsTable, table_given, tabl
 use Rattle.route_feed.specs.Output.{table_after, refusals_after}
 use Rattle.route_feed.specs.Steps.{step}
 use Rattle.route_feed.specs.Streams.{closings, replies_in}
-use Rattle.route_feed.proofs.Beginnings.{AreInRange, all_in_range, commands_of, empty_is_table, flat_lists_agree}
+use Rattle.route_feed.proofs.Beginnings.{all_in_range, commands_of, flat_lists_agree}
 use Rattle.route_feed.proofs.Rebuilt.{lines_keep_hops}
 use Rattle.route_feed.proofs.Replies.{In-take, form_step}
+use Rattle.route_feed.proofs.Values.{AreInRange, empty_is_table}
 
 -- a table of networks stays one after any commands
 after_is : (M : List Stored) (commands : List (Option Command)) (r : List Bool) → IsStoredTable M → AreInRange commands → IsStoredTable (table_after M commands r)

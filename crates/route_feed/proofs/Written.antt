@@ -1,11 +1,11 @@
 -- Writes one after another.
-use Rattle.std.proofs.Common.{◌≡◌, ◌==◌, ne_eqb, ℕ, suc, ◌<◌, ◌+◌, Bool, true, false, ◌&&◌, ◌||◌, codes, List, [], ◌∷◌, ◌++◌, length, Option, Result, Ok, Err, refl, sym, ap, ◌∙◌, subst, append_assoc, append-nil, arith}
+use Rattle.std.proofs.Common.{◌≡◌, ◌==◌, ne_eqb, ℕ, zero, suc, ◌<◌, ◌≤◌, ◌+◌, ◌-◌, ◌^◌, Bool, true, false, ◌&&◌, ◌||◌, codes, List, [], ◌∷◌, ◌++◌, length, Option, Result, Ok, Err, refl, sym, ap, ◌∙◌, subst, append_assoc, append-nil, arith}
 use Rattle.std.specs.Io.KnownBytes.{Appends}
 use Rattle.std.proofs.KnownBytes.{Appends-nil, Appends-trans}
 use Rattle.std.proofs.lemmas.Bool.{or_right, and_right}
 use Rattle.route_feed.specs.declared.error.RunError.{RunError}
 use Rattle.route_feed.specs.declared.counted.Counted.{Counted}
-use Rattle.route_feed.specs.Counted.{one_more, more_by, more_if, Flushed}
+use Rattle.route_feed.specs.Counted.{MoreByIsMin, one_more, more_by, more_if, Flushed}
 use Rattle.route_feed.specs.InnerReplies.{Written, Delivers, has_bytes}
 use Rattle.route_feed.specs.Devices.{Closed, Torn, Closes}
 
@@ -34,6 +34,12 @@ pub waits_more : (times : ℕ) (w : Bool) → waits_after (suc times) w ≡ fals
 waits_more times w = ap (λ b. b && w) (ne_eqb (suc times) 0 (omega arith))
 
 -- flushes after flushes
+pub more_by_is_min : MoreByIsMin
+more_by_is_min zero n h = omega (arith, h)
+more_by_is_min (suc times) n h =
+    let small : one_more n ≤ 2 ^ 64 - 1 = omega (arith, h) in
+    more_by_is_min times (one_more n) small ∙ omega (arith, h)
+
 more_append : {A : Type 0} (xs ys : List A) (n : ℕ) → more_by (length (xs ++ ys)) n ≡ more_by (length ys) (more_by (length xs) n)
 more_append [] ys n = refl
 more_append (x ∷ xs) ys n = more_append xs ys (one_more n)

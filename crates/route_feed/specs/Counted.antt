@@ -11,6 +11,10 @@ abbrev pub more_by : ℕ → ℕ → ℕ
 more_by zero n = n
 more_by (suc times) n = more_by times (one_more n)
 
+-- this is a sum up to the greatest u64
+abbrev pub MoreByIsMin : Type 0
+MoreByIsMin = (times n : ℕ) → n ≤ 2 ^ 64 - 1 → more_by times n ≡ min (n + times) (2 ^ 64 - 1)
+
 -- one more if there was a fault
 abbrev pub more_if : Bool → ℕ → ℕ
 more_if fault n = if fault then one_more n else n

@@ -1,5 +1,5 @@
 -- The table that an installer keeps installed, given the lines of a leader.
-use Rattle.std.specs.Prelude.{◌≡◌, ◌⊎◌, ◌<◌, ◌^◌, ℕ, Bool, All, IsSome, true, false, List, [], ◌∷◌, ◌++◌, Any, Option, Some, None, Contains, filter, length, map, not, suc, take}
+use Rattle.std.specs.Prelude.{◌≡◌, ◌↔◌, ◌⊎◌, ◌<◌, ◌≤◌, ◌^◌, ℕ, Bool, All, IsSome, true, false, List, [], ◌∷◌, ◌++◌, Any, Option, Some, None, Contains, filter, length, map, not, suc, take}
 use Rattle.std.specs.List.{filter_map}
 use Rattle.ipnet.specs.declared.ip_net.IpNet.{IpNet}
 use Rattle.ipnet_addr.specs.Addresses.{Address, IsAddress}
@@ -63,6 +63,22 @@ HasSync ns = Any (λ n. n.note ≡ Notes.Sync) ns
 -- the note doesn't list a route as installed
 abbrev pub IsNoHave : Note → Type 0
 IsNoHave note = (net : IpNet) (hop : Hop) → note ≡ Notes.Have net hop → ⊥
+
+-- ---- moments
+
+-- there is a moment among the operations before which the address has the old hop, and from which on it has the new one
+abbrev pub TurnsOnce : List Route → List Operation → Address → Option ℕ → Option ℕ → Type 0
+TurnsOnce M os x old new = (moment : ℕ) × ((i : ℕ) → i < moment → hop_at (after_all M (take i os)) x ≡ old)
+    × ((i : ℕ) → moment ≤ i → hop_at (after_all M (take i os)) x ≡ new)
+
+-- operations are hitless exactly if each address turns at one moment, from its hop before them to its hop after them
+abbrev pub HitlessIsTurnsOnce : Type 0
+HitlessIsTurnsOnce = (M : List Route) (os : List Operation) → IsHitless M os ↔ ((x : Address) → IsAddress x → TurnsOnce M os x (hop_at M x) (hop_at (after_all M os) x))
+
+-- after a `sync`, each address turns at one moment of a note, from the hop that the replies before it commit to that with its own
+abbrev pub InstalledTurnsOnce : Type 0
+InstalledTurnsOnce = (ns : List Noted) (n : Noted) → MayAllCome start (events begin (ns ++ n ∷ [])) → HasSync ns → (x : Address) → IsAddress x
+    → TurnsOnce (installed_by ns) (operations_at ns n) x (painted (committed (replies_of ns)) x) (painted (committed (replies_of (ns ++ n ∷ []))) x)
 
 -- ---- notes of a leader's replies, with other notes anywhere between them
 

@@ -1,22 +1,76 @@
 -- The knowledge of a follower that has read any beginning of a leader's output.
-use Rattle.std.specs.Prelude.{◌≡◌, ◌↔◌, ◌<◌, ◌^◌, ℕ, Bool, List, [], ◌∷◌, ◌++◌, Option, None, map, take, length}
+use Rattle.std.specs.Prelude.{◌≡◌, ◌≢◌, ◌↔◌, ◌<◌, ◌^◌, ℕ, Bool, List, [], ◌∷◌, ◌++◌, All, Option, Some, None, map, take, length}
+use Rattle.std.specs.List.{AllZip, flat_map}
 use Rattle.ipnet_addr.specs.Addresses.{Address, IsAddress}
+use Rattle.ipnet_blocks.specs.Blocks.{Block, HasAddress, IsBlock}
+use Rattle.ipnet_blocks.specs.Maximal.{IsMaximal}
+use Rattle.ipnet.specs.IpNets.{block}
 use Rattle.route_lines.specs.Bytes.{lines, rest}
+use Rattle.route_lines.specs.declared.command.Command.{Command}
+use Rattle.route_lines.specs.declared.command.Command.TheVariants as C
 use Rattle.route_lines.specs.declared.reply.Closing.TheVariants.{Done}
+use Rattle.route_lines.specs.declared.reply.Reply.{Reply}
 use Rattle.route_lines.specs.declared.reply.Reply.TheVariants.{Close}
-use Rattle.route_choices.specs.Choices.{default_preference}
+use Rattle.route_choices.specs.Choices.{AreChoices, Choice, default_preference}
+use Rattle.route_choices.specs.Hops.{IsHop}
 use Rattle.route_laws.specs.Changes.{route_for}
 use Rattle.route_laws.specs.Flats.{flat_of}
 use Rattle.route_laws.specs.LeastTables.{HasHops, IsLeast}
-use Rattle.route_laws.specs.Networks.{Stored, IsStoredTable, routes_of}
-use Rattle.route_laws.specs.Tables.{Route, IsTable, hop_at}
+use Rattle.route_laws.specs.Networks.{Stored, IsStoredTable, routes_of, with_choices}
+use Rattle.route_laws.specs.Tables.{Changed, Route, IsTable, hop_at}
 use Rattle.route_feed.specs.AddLines.{add_lines}
 use Rattle.route_feed.specs.Follows.{AreReplies, followed}
 use Rattle.route_feed.specs.Replies.{printed}
-use Rattle.route_feed.specs.Steps.{flat_line}
+use Rattle.route_feed.specs.Steps.{change_line, change_lines, flat_line}
 use Rattle.route_feed.specs.Shortens.{IsLeastFor}
-use Rattle.route_feed.specs.Output.{table_after, whole_commands, at_end, output}
+use Rattle.route_feed.specs.Output.{replies, table_after, whole_commands, at_end, output}
 use Rattle.route_feed.specs.Streams.{closings, committed, painted, replies_in}
+
+-- ---- by values
+
+-- a command that changes the table or asks for all routes of a network has a network, and an `add` a hop and a preference, in range
+abbrev pub IsInRange : Option Command → Type 0
+IsInRange (Some (C.Add net hop pref)) = IsBlock (block net) × IsHop hop × (pref < 2 ^ 16)
+IsInRange (Some (C.Del net hop)) = IsBlock (block net)
+IsInRange (Some (C.All net)) = IsBlock (block net)
+IsInRange command = Unit {0}
+
+-- the changes of any first reply lines give each address its hop in the table after as many commands as there are closing lines
+abbrev pub LinesAgree : Type 0
+LinesAgree = (commands : List (Option Command)) (refusals : List Bool) (front back : List Reply) → All IsInRange commands
+    → replies [] commands refusals ≡ front ++ back
+    → (x : Address) → IsAddress x → painted (committed front) x ≡ hop_at (routes_of (table_after [] (take (closings front) commands) refusals)) x
+
+-- the lines of a change: the maximal blocks of the addresses whose hop changes, each with the hop that all its addresses have then
+abbrev pub AreChangeLines : List Route → List Route → List Reply → Type 0
+AreChangeLines M N ls = (bs : List Block) × IsMaximal (Changed M N) bs × AllZip (λ b line. (x : Address) → HasAddress b x → line ≡ change_line (hop_at N x) b) bs ls
+
+-- such are the lines of a change of one network's routes, and no others
+abbrev pub ChangesHaveOneHop : Type 0
+ChangesHaveOneHop = (M : List Stored) (b : Block) (cs : List Choice) (ls : List Reply) → IsStoredTable M → IsBlock b → AreChoices cs
+    → (ls ≡ change_lines (routes_of M) (routes_of (with_choices M b cs))) ↔ AreChangeLines (routes_of M) (routes_of (with_choices M b cs)) ls
+
+-- ---- in bytes
+
+-- the bytes are these pieces, each with a line end, and then the last piece; there is no other line end
+pub record IsSplit (bytes : List ℕ) (pieces : List (List ℕ)) (last : List ℕ) : Type 0 where
+  pub made : bytes ≡ flat_map (λ piece. piece ++ 10 ∷ []) pieces ++ last
+  pub clean : All (λ piece. All (λ c. c ≢ 10) piece) pieces
+  pub ended : All (λ c. c ≢ 10) last
+
+-- such are the lines of the bytes with their rest, and no others
+abbrev pub SplitIsLines : Type 0
+SplitIsLines = (bytes : List ℕ) (pieces : List (List ℕ)) (last : List ℕ) → IsSplit bytes pieces last ↔ ((pieces ≡ lines bytes) × (last ≡ rest bytes))
+
+-- the commands that bytes spell are in range
+abbrev pub CommandsAreInRange : Type 0
+CommandsAreInRange = (bytes : List ℕ) → All IsInRange (whole_commands bytes ++ at_end (rest bytes))
+
+-- the reply lines in a beginning of the output have the committed changes of some first reply lines, and as many closing lines
+abbrev pub BeginningsAreLines : Type 0
+BeginningsAreLines = (bytes front back : List ℕ) (refusals : List Bool) → output bytes refusals ≡ front ++ back
+    → (first : List Reply) × (later : List Reply) × (replies [] (whole_commands bytes ++ at_end (rest bytes)) refusals ≡ first ++ later)
+    × (committed (replies_in front) ≡ committed first) × (closings (replies_in front) ≡ closings first)
 
 -- the leader's table after as many of its commands as there are complete replies in this beginning of the output
 abbrev pub table_told : List ℕ → List Bool → List ℕ → List Stored

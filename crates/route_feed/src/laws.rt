@@ -2,11 +2,37 @@
 ghost use Rattle.std.specs.Prelude.{◌≡◌, ◌↔◌, IsTrue};
 ghost use Rattle.route_feed.specs.declared.error.RunError.{RunError as AnyRunError};
 ghost use Rattle.route_feed.specs.declared.follower.FollowError.{FollowError as AnyFollowError};
-ghost use Rattle.route_feed.specs.InstallLaws.{BeginningsAreCarriedOut, BeginningsAreNotes, CutsAgree, InstalledAgrees, InstalledAtAllTimes, InstalledIsHitless, LogsAreFirst, OperationsReach, OutputAgrees, OutputIsGiven, OutputReadsBack, RepliesAreFewest, SyncsAreLeast, SyncsStay};
-ghost use Rattle.route_feed.specs.Laws.{AllAreAnswered, BeginningsAgree, BeginningsAreReplies, FlatListsAgree, LinesKeepHops, LinesRebuild, LinesStayLeast, NoHopsNoLines, OutputIsFollowed, RestartedAgree, SameFlatBytes, ShortenedAgree, ToldIsTable};
+ghost use Rattle.route_feed.specs.Counted.{MoreByIsMin};
+ghost use Rattle.route_feed.specs.InstallLaws.{BeginningsAreCarriedOut, BeginningsAreNotes, CutsAgree, HitlessIsTurnsOnce, InstalledAgrees, InstalledAtAllTimes, InstalledIsHitless, InstalledTurnsOnce, LogsAreFirst, OperationsReach, OutputAgrees, OutputIsGiven, OutputReadsBack, RepliesAreFewest, SyncsAreLeast, SyncsStay};
+ghost use Rattle.route_feed.specs.Laws.{AllAreAnswered, BeginningsAgree, BeginningsAreLines, BeginningsAreReplies, ChangesHaveOneHop, CommandsAreInRange, FlatListsAgree, LinesAgree, LinesKeepHops, LinesRebuild, LinesStayLeast, NoHopsNoLines, OutputIsFollowed, RestartedAgree, SameFlatBytes, ShortenedAgree, SplitIsLines, ToldIsTable};
 
 use crate::error::RunError;
 use crate::follower::FollowError;
+
+/// Take any of the first reply lines of a leader, as values, and make the changes of the replies among them that end with `ok`.
+///
+/// - `hops`: each address has the hop of the leader's table after as many commands as there are complete replies.
+/// - `commands`: the commands that bytes spell are in range, as `hops` asks of commands.
+/// - `written`: the reply lines in a beginning of the output, cut at any byte, have the changes and closing lines of some first ones.
+pub fn reply_lines()
+    ensures hops { LinesAgree }
+    ensures commands { CommandsAreInRange }
+    ensures written { BeginningsAreLines }
+{}
+
+/// The meaning of some definitions.
+///
+/// - `changes`: the lines of a change of one network's routes are those of its maximal blocks, each with the hop of every address of the
+///   block.
+/// - `split`: the lines of bytes and the rest are the only pieces without a line end that make them.
+/// - `moments`: operations are hitless exactly if each address turns at one moment.
+/// - `counts`: a count and some more are their sum, up to the greatest u64.
+pub fn meanings()
+    ensures changes { ChangesHaveOneHop }
+    ensures split { SplitIsLines }
+    ensures moments { HitlessIsTurnsOnce }
+    ensures counts { MoreByIsMin }
+{}
 
 /// Take any beginning of a leader's output, cut at any byte, and make the changes of the replies in it that end with `ok`.
 ///
@@ -58,6 +84,8 @@ pub fn shortened()
 ///
 /// Take any lines that an installer reads:
 ///
+/// - `turns`: after a `sync`, each address turns at one moment of a line. Before this moment it has the hop that the replies before the
+///   line commit, and from it on that of the replies with the line.
 /// - `hitless`: the operations of one line change the hop of each address at most once.
 /// - `reaches`: the operations of a line turn the table installed before it into the table installed after it.
 /// - `fewest`: after a `sync`, the operations at an `ok` are the fewest of all that bring each address to its committed hop.
@@ -66,6 +94,7 @@ pub fn shortened()
 pub fn installed()
     ensures hops { InstalledAgrees }
     ensures times { InstalledAtAllTimes }
+    ensures turns { InstalledTurnsOnce }
     ensures hitless { InstalledIsHitless }
     ensures reaches { OperationsReach }
     ensures fewest { RepliesAreFewest }

@@ -1,4 +1,4 @@
-use Rattle.route_feed.proofs.KeptTable.{installed_agrees, installed_at_all_times, installed_is_hitless, operations_reach, replies_are_fewest, syncs_are_least, syncs_stay}
+use Rattle.route_feed.proofs.KeptTable.{installed_agrees, installed_at_all_times, installed_is_hitless, installed_turns_once, operations_reach, replies_are_fewest, syncs_are_least, syncs_stay}
 use Rattle.route_feed.proofs.laws.installed.Goals as goal
 
 pub returns-clause-hops : goal.returns-clause-hops
@@ -9,6 +9,9 @@ returns-clause-hitless c = installed_is_hitless
 
 pub returns-clause-times : goal.returns-clause-times
 returns-clause-times c = installed_at_all_times
+
+pub returns-clause-turns : goal.returns-clause-turns
+returns-clause-turns c = installed_turns_once
 
 pub returns-clause-reaches : goal.returns-clause-reaches
 returns-clause-reaches c = operations_reach
