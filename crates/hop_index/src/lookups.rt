@@ -1,6 +1,7 @@
 //! Lookups in the ranges of a family.
 ghost use Rattle.std.specs.Prelude.{◌≡◌, ℕ, ◌+◌, ◌^◌, ◌<◌, IfOk, length};
 ghost use Rattle.hop_index.specs.Ranges.{hop_in};
+ghost use Rattle.hop_index.specs.InnerNodes.{Leads};
 ghost use Rattle.hop_index.specs.InnerRanges.{AreAscending, ArePadded, EndsBelow, EndsFrom};
 
 use crate::cells::{cell_at, tops_of};
@@ -67,7 +68,7 @@ fn ended<N: Stored>(ranges: &Ranges<N>, low: u32, high: u32, number: N) -> usize
 
 /// The hops of the addresses of a family: ranges, and cells and nodes that leave few of them for an address.
 ///
-/// Contracts see the ranges.
+/// Contracts see the ranges, and the nodes.
 #[derive(Drop)]
 pub(crate) struct Lookups<N: Stored> {
     tops: Vec<u32>,
@@ -76,14 +77,13 @@ pub(crate) struct Lookups<N: Stored> {
 }
 
 impl<N: Stored> Model for Lookups<N> {
-    ghost use Rattle.std.specs.Prelude.{◌^◌, List, length};
-    ghost use Rattle.hop_index.specs.Ranges.{HopRange};
-    ghost use Rattle.hop_index.specs.InnerNodes.{AreEntries, AreNodes};
+    ghost use Rattle.std.specs.Prelude.{◌^◌, length};
+    ghost use Rattle.hop_index.specs.InnerNodes.{AreEntries, AreNodes, Divided};
     ghost use Rattle.hop_index.specs.InnerRanges.{ArePadded, AreTops, cell_of, head_of};
 
-    ghost Value = { List HopRange };
+    ghost Value = { Divided };
 
-    ghost view = { λ a. a.nodes.ranges };
+    ghost view = { λ a. record { ranges = a.nodes.ranges; nodes = a.nodes.nodes.items } };
 
     ghost invariant = { λ a. AreTops a.tops.items × ArePadded a.nodes.ranges (2 ^ N.width) × AreNodes a.nodes.ranges (2 ^ N.width) a.nodes.nodes.items a.nodes.cells.items × AreEntries (λ x. cell_of a.tops.items (head_of N.width x)) (2 ^ N.width) a.nodes.nodes.items a.nodes.ranges 0 (length a.nodes.ranges) a.cells.items };
 }
@@ -93,7 +93,7 @@ impl<N: Stored> Lookups<N> {
     pub(crate) fn new(alloc: Global, mut ranges: Ranges<N>) -> Result<Lookups<N>, AllocError>
         requires ascending { AreAscending ranges }
         requires within { EndsBelow ranges (2 ^ N.width) (length ranges) }
-        ensures { IfOk result (λ l. (x : ℕ) → hop_in l x ≡ hop_in ranges x) }
+        ensures { IfOk result (λ l. (x : ℕ) → hop_in l.ranges x ≡ hop_in ranges x) }
     {
         ranges.pad()?;
         let end = ranges.len();
@@ -107,34 +107,34 @@ impl<N: Stored> Lookups<N> {
         Ok(Lookups { tops, cells, nodes })
     }
 
-    /// Bounds of the number of ranges that end below the number.
+    /// The entry of the cell of the number.
     #[inline]
-    pub(crate) fn bounds(&self, number: N) -> (u32, u32)
-        ensures below { EndsBelow self.now (N.number number) result.0 }
-        ensures from { EndsFrom self.now (N.number number) result.1 }
+    pub(crate) fn entry(&self, number: N) -> u32
+        ensures leads { Leads self.now.nodes self.now.ranges (N.number number) result }
         ensures number { N.number number < 2 ^ N.width }
     {
-        let cell = cell_at(&self.tops, number.head());
-        self.nodes.bounds(self.cells[cell], number)
+        self.cells[cell_at(&self.tops, number.head())]
     }
 
-    /// The hop of the number, with its bounds.
+    /// The entry of the number's cell in a node. Any other entry stays.
     #[inline]
-    pub(crate) fn hop_within(&self, number: N, bounds: (u32, u32)) -> Option<u32>
+    pub(crate) fn follow(&self, entry: u32, number: N) -> u32
         requires number { N.number number < 2 ^ N.width }
-        requires below { EndsBelow self.now (N.number number) bounds.0 }
-        requires from { EndsFrom self.now (N.number number) bounds.1 }
-        ensures { result ≡ hop_in self.now (N.number number) }
+        requires entry { Leads self.now.nodes self.now.ranges (N.number number) entry }
+        ensures { Leads self.now.nodes self.now.ranges (N.number number) result }
     {
-        let place = ended(&self.nodes.ranges, bounds.0, bounds.1, number);
-        self.nodes.ranges.hop(place)
+        self.nodes.follow(entry, number)
     }
 
-    /// The hop of the number.
+    /// The hop of the number, from an entry on.
     #[inline]
-    pub(crate) fn hop(&self, number: N) -> Option<u32>
-        ensures { result ≡ hop_in self.now (N.number number) }
+    pub(crate) fn hop(&self, entry: u32, number: N) -> Option<u32>
+        requires number { N.number number < 2 ^ N.width }
+        requires entry { Leads self.now.nodes self.now.ranges (N.number number) entry }
+        ensures { result ≡ hop_in self.now.ranges (N.number number) }
     {
-        self.hop_within(number, self.bounds(number))
+        let (low, high) = self.nodes.bounds(entry, number);
+        let place = ended(&self.nodes.ranges, low, high, number);
+        self.nodes.ranges.hop(place)
     }
 }

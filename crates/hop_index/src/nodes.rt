@@ -242,34 +242,33 @@ impl<N: Stored> Nodes<N> {
         Ok(entries)
     }
 
-    /// The entry that nodes lead a number to.
+    /// The entry of a number's cell in a node. Any other entry stays.
     #[inline]
-    fn last_entry(&self, mut entry: u32, number: N) -> u32
+    pub(crate) fn follow(&self, entry: u32, number: N) -> u32
         requires nodes { AreNodes self.now.ranges (2 ^ N.width) self.now.nodes.items self.now.cells.items }
         requires number { N.number number < 2 ^ N.width }
         requires entry { Leads self.now.nodes.items self.now.ranges (N.number number) entry }
         ensures { Leads self.now.nodes.items self.now.ranges (N.number number) result }
     {
-        for _ in 0..LEVELS {
-            if entry < MARK {
-                return entry;
-            }
-            let node = &self.nodes[(entry - MARK) as usize];
-            entry = self.cells[node.place(number)];
+        if entry < MARK {
+            return entry;
         }
-        entry
+        let node = &self.nodes[(entry - MARK) as usize];
+        self.cells[node.place(number)]
     }
 
-    /// Bounds of the number of ranges that end below a number, from the entry of its cell.
+    /// Bounds of the number of ranges that end below a number, from an entry on.
     #[inline]
-    pub(crate) fn bounds(&self, entry: u32, number: N) -> (u32, u32)
+    pub(crate) fn bounds(&self, mut entry: u32, number: N) -> (u32, u32)
         requires nodes { AreNodes self.now.ranges (2 ^ N.width) self.now.nodes.items self.now.cells.items }
         requires number { N.number number < 2 ^ N.width }
         requires entry { Leads self.now.nodes.items self.now.ranges (N.number number) entry }
         ensures below { EndsBelow self.now.ranges (N.number number) result.0 }
         ensures from { EndsFrom self.now.ranges (N.number number) result.1 }
     {
-        let entry = self.last_entry(entry, number);
+        for _ in 0..LEVELS {
+            entry = self.follow(entry, number);
+        }
         if entry < MARK {
             return (entry, entry + 4);
         }

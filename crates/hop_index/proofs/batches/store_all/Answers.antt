@@ -1,5 +1,6 @@
 use Rattle.std.proofs.Common.{◌+◌, ◌≤◌, ℕ, length, arith}
 use Rattle.hop_index.specs.Indexes.{hop_of}
+use Rattle.hop_index.specs.InnerNodes.{index_of}
 use Rattle.hop_index.proofs.Groups.{one_more_group}
 use Rattle.hop_index.proofs.batches.store_all.Goals as goal
 
@@ -11,6 +12,6 @@ loop-place-preserved g c =
     record {
       as_long = search;
       within = within;
-      done = one_more_group (λ addr. hop_of c.args.index.now (g.A.Addressed.address addr)) c.args.addrs.now c.loop-place.hops c.store_group.new.hops c.loop-place.place end
+      done = one_more_group (λ addr. hop_of (index_of c.args.sides.now.v4 c.args.sides.now.v6) (g.A.Addressed.address addr)) c.args.addrs.now c.loop-place.hops c.store_group.new.hops c.loop-place.place end
           (omega arith) within i.as_long c.store_group.ensures i.done;
     }

@@ -1,7 +1,8 @@
 use Rattle.std.proofs.Common.{ℕ, ◌∙◌, ◌<◌, List, None, length, ap, sym, arith}
 use Rattle.hop_index.specs.Ranges.{HopRange, hop_in}
+use Rattle.hop_index.specs.InnerNodes.{Divided}
 use Rattle.hop_index.proofs.Searches.{before_pads, found}
-use Rattle.hop_index.proofs.lookups.Lookups.hop_within.Goals as goal
+use Rattle.hop_index.proofs.lookups.Lookups.hop.Goals as goal
 
 pub hop-requires : goal.hop-requires
 hop-requires g c = let h = before_pads c.self.inside.nodes.ranges _ _ c.ended-place.result c.self.invariant.1 c.requires.number c.ended-place.ensures.below in omega (arith, h)
@@ -12,4 +13,4 @@ returns g c =
     let d : HopRange = record { last = 0; hop = None } in
     let number : ℕ = g.N.Stored.number c.args.number in
     let within : c.ended-place.result < length rs = let h = before_pads rs _ _ c.ended-place.result c.self.invariant.1 c.requires.number c.ended-place.ensures.below in omega (arith, h) in
-    c.hop.ensures d ∙ (sym (found rs c.ended-place.result d number within c.ended-place.ensures.below c.ended-place.ensures.from) ∙ ap (λ (xs : List HopRange). hop_in xs number) c.self.view_is)
+    c.hop.ensures d ∙ (sym (found rs c.ended-place.result d number within c.ended-place.ensures.below c.ended-place.ensures.from) ∙ ap (λ (v : Divided). hop_in v.ranges number) c.self.view_is)
