@@ -1,11 +1,10 @@
 //! Lookups of many addresses, in steps, so that reads of memory for several addresses overlap.
-ghost use Rattle.std.specs.Prelude.{◌≡◌, ℕ, ◌≤◌, length, map};
+ghost use Rattle.std.specs.Prelude.{◌≡◌, ℕ, length, map};
 ghost use Rattle.ipnet_addr.specs.Addresses.{Address, Ipv4, address_of};
 ghost use Rattle.hop_index.specs.Indexes.{hop_of};
 ghost use Rattle.hop_index.specs.InnerNodes.{AllLead, index_of};
 
 use crate::index::Sides;
-use crate::nodes::LEVELS;
 use ipnet::IpAddr;
 use ipnet_addr::bits::ipv4_of;
 
@@ -41,7 +40,7 @@ impl Addressed for u32 {
     }
 }
 
-/// The first step: the entry of the cell of each address.
+/// The first step: the entry of each address's cell.
 fn enter<A: Addressed>(sides: &Sides, addrs: &[A], entries: &mut [u32])
     requires { length entries.old ≡ length addrs.now }
     ensures { AllLead sides.now.v4 sides.now.v6 A.address addrs.now entries.new }
@@ -51,17 +50,17 @@ fn enter<A: Addressed>(sides: &Sides, addrs: &[A], entries: &mut [u32])
     }
 }
 
-/// A step from nodes to the entries of their cells.
+/// The second step: the entry that nodes lead each address to.
 fn follow<A: Addressed>(sides: &Sides, addrs: &[A], entries: &mut [u32])
     requires { AllLead sides.now.v4 sides.now.v6 A.address addrs.now entries.old }
     ensures { AllLead sides.now.v4 sides.now.v6 A.address addrs.now entries.new }
 {
     for place in 0..addrs.len() {
-        entries[place] = sides.follow(entries[place], addrs[place].addr());
+        entries[place] = sides.last_entry(entries[place], addrs[place].addr());
     }
 }
 
-/// The last step: the hop of each address, from its entry on.
+/// The third step: the hop of each address, from its entry.
 fn find<A: Addressed>(sides: &Sides, addrs: &[A], entries: &[u32], hops: &mut [Option<u32>])
     requires entries { AllLead sides.now.v4 sides.now.v6 A.address addrs.now entries.now }
     requires hops { length hops.old ≡ length addrs.now }
@@ -72,30 +71,20 @@ fn find<A: Addressed>(sides: &Sides, addrs: &[A], entries: &[u32], hops: &mut [O
     }
 }
 
-/// Stores the hops of at most as many addresses as go through the steps together.
-fn store_group<A: Addressed>(sides: &Sides, addrs: &[A], hops: &mut [Option<u32>])
-    requires few { length addrs.now ≤ 32 }
-    requires hops { length hops.old ≡ length addrs.now }
-    ensures { hops.new ≡ map (λ addr. hop_of (index_of sides.now.v4 sides.now.v6) (A.address addr)) addrs.now }
-{
-    let mut entries = [0; GROUP];
-    let entries = &mut entries[..addrs.len()];
-    enter(sides, addrs, entries);
-    for _ in 0..LEVELS {
-        follow(sides, addrs, entries);
-    }
-    find(sides, addrs, entries, hops);
-}
-
 /// Stores the hops of all addresses, group by group.
 pub(crate) fn store_all<A: Addressed>(sides: &Sides, addrs: &[A], hops: &mut [Option<u32>])
     requires { length hops.old ≡ length addrs.now }
     ensures { hops.new ≡ map (λ addr. hop_of (index_of sides.now.v4 sides.now.v6) (A.address addr)) addrs.now }
 {
+    let mut entries = [0; GROUP];
     let mut place = 0;
     while place < addrs.len() {
         let end = place + (addrs.len() - place).min(GROUP);
-        store_group(sides, &addrs[place..end], &mut hops[place..end]);
+        let group = &addrs[place..end];
+        let entries = &mut entries[..group.len()];
+        enter(sides, group, entries);
+        follow(sides, group, entries);
+        find(sides, group, entries, &mut hops[place..end]);
         place = end;
     }
 }

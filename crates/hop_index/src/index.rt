@@ -45,7 +45,7 @@ pub(crate) struct Sides {
 }
 
 impl Sides {
-    /// The entry of the cell of an address.
+    /// The entry of the address's cell.
     #[inline(always)]
     pub(crate) fn entry(&self, addr: IpAddr) -> u32
         ensures leads { LeadsAddress self.now.v4 self.now.v6 (address_of addr) result }
@@ -57,19 +57,19 @@ impl Sides {
         }
     }
 
-    /// The entry of the address's cell in a node. Any other entry stays.
+    /// The entry that nodes lead the address to.
     #[inline(always)]
-    pub(crate) fn follow(&self, entry: u32, addr: IpAddr) -> u32
+    pub(crate) fn last_entry(&self, entry: u32, addr: IpAddr) -> u32
         requires { LeadsAddress self.now.v4 self.now.v6 (address_of addr) entry }
         ensures { LeadsAddress self.now.v4 self.now.v6 (address_of addr) result }
     {
         match addr {
-            IpAddr::V4(addr) => self.v4.follow(entry, u32::of_addr(addr)),
-            IpAddr::V6(addr) => self.v6.follow(entry, Halves::of_bits(u128::of_addr(addr))),
+            IpAddr::V4(addr) => self.v4.last_entry(entry, u32::of_addr(addr)),
+            IpAddr::V6(addr) => self.v6.last_entry(entry, Halves::of_bits(u128::of_addr(addr))),
         }
     }
 
-    /// The hop of an address, from an entry on.
+    /// The hop of the address, from its entry.
     #[inline(always)]
     pub(crate) fn hop(&self, entry: u32, addr: IpAddr) -> Option<u32>
         requires { LeadsAddress self.now.v4 self.now.v6 (address_of addr) entry }
@@ -117,8 +117,7 @@ impl HopIndex {
         ensures hops { IfOk result (λ i. (x : Address) → IsAddress x → hop_of i x ≡ hop_at (routes_of table.now) x) }
         ensures memory { IfErr result (λ e. e ≡ Memory) }
     {
-        let flat = table.flat();
-        HopIndex::from_flat(alloc, flat)
+        HopIndex::from_flat(alloc, table.flat())
     }
 
     /// Compiles an index of the hops of a table with one route for each network. `drop` and no route are both `None`.
@@ -136,8 +135,7 @@ impl HopIndex {
         ensures hops { IfOk result (λ i. (x : Address) → IsAddress x → hop_of i x ≡ hop_at (routes_of table.now) x) }
         ensures memory { IfErr result (λ e. e ≡ Memory) }
     {
-        let flat = table.flat();
-        HopIndex::from_flat(alloc, flat)
+        HopIndex::from_flat(alloc, table.flat())
     }
 
     /// Compiles an index of the hops of a flat list, such as the result of `RouteTable::flat`. All other addresses have no hop.
@@ -153,14 +151,6 @@ impl HopIndex {
         requires { (h : Address → Option ℕ) × IsFlat h flat }
         ensures hops { IfOk result (λ i. (h : Address → Option ℕ) → IsFlat h flat.entry → (x : Address) → IsAddress x → hop_of i x ≡ h x) }
         ensures memory { IfErr result (λ e. e ≡ Memory) }
-    {
-        Ok(HopIndex::compiled(alloc, flat)?)
-    }
-
-    /// `from_flat`, with the allocator's own error.
-    fn compiled(alloc: Global, flat: Flat<'_>) -> Result<HopIndex, AllocError>
-        requires { (h : Address → Option ℕ) × IsFlat h flat }
-        ensures { IfOk result (λ i. (h : Address → Option ℕ) → IsFlat h flat.entry → (x : Address) → IsAddress x → hop_of i x ≡ h x) }
     {
         let (v4, v6) = ranges(alloc, flat)?;
         let v4 = Lookups::new(alloc, v4)?;
@@ -184,7 +174,8 @@ impl HopIndex {
         ensures hop { result ≡ hop_of self.now (address_of addr) }
         ensures address { IsAddress (address_of addr) }
     {
-        self.sides.hop(self.sides.entry(addr), addr)
+        let entry = self.sides.last_entry(self.sides.entry(addr), addr);
+        self.sides.hop(entry, addr)
     }
 
     /// Stores the hops of the addresses in `hops`, in the same order; both slices must have the same length. Does not allocate.

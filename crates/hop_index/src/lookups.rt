@@ -2,7 +2,7 @@
 ghost use Rattle.std.specs.Prelude.{◌≡◌, ℕ, ◌+◌, ◌^◌, ◌<◌, IfOk, length};
 ghost use Rattle.hop_index.specs.Ranges.{hop_in};
 ghost use Rattle.hop_index.specs.InnerNodes.{Leads};
-ghost use Rattle.hop_index.specs.InnerRanges.{AreAscending, ArePadded, EndsBelow, EndsFrom};
+ghost use Rattle.hop_index.specs.InnerRanges.{AreAscending, EndsBelow};
 
 use crate::cells::{cell_at, tops_of};
 use crate::nodes::{LEVELS, MARK, Node, Nodes};
@@ -10,61 +10,6 @@ use crate::ranges::Ranges;
 use crate::stored::Stored;
 use std::alloc::{AllocError, Global};
 use std::marker::Model;
-
-/// The number of ranges that end below the number, if that is at least `low` and at most `low + 4`.
-#[inline]
-fn among_four<N: Stored>(ranges: &Ranges<N>, low: u32, number: N) -> usize
-    requires ascending { AreAscending ranges.now }
-    requires low { EndsBelow ranges.now (N.number number) low }
-    requires high { EndsFrom ranges.now (N.number number) (low + 4) }
-    ensures below { EndsBelow ranges.now (N.number number) result }
-    ensures from { EndsFrom ranges.now (N.number number) result }
-{
-    let low = low as usize;
-    let mut count = low;
-    for step in 0..4 {
-        if ranges.last(low + step).is_below(number) {
-            count += 1;
-        }
-    }
-    count
-}
-
-/// The number of ranges that end below the number, if that is at least `low` and at most `high`.
-fn by_halves<N: Stored>(ranges: &Ranges<N>, mut low: usize, mut high: usize, number: N) -> usize
-    requires ascending { AreAscending ranges.now }
-    requires low { EndsBelow ranges.now (N.number number) low }
-    requires high { EndsFrom ranges.now (N.number number) high }
-    ensures below { EndsBelow ranges.now (N.number number) result }
-    ensures from { EndsFrom ranges.now (N.number number) result }
-{
-    while low < high {
-        let middle = low + (high - low) / 2;
-        if ranges.last(middle).is_below(number) {
-            low = middle + 1;
-        } else {
-            high = middle;
-        }
-    }
-    low
-}
-
-/// The number of ranges that end below the number, which is at least `low` and at most `high`.
-#[inline]
-fn ended<N: Stored>(ranges: &Ranges<N>, low: u32, high: u32, number: N) -> usize
-    requires ranges { ArePadded ranges.now (2 ^ N.width) }
-    requires number { N.number number < 2 ^ N.width }
-    requires low { EndsBelow ranges.now (N.number number) low }
-    requires high { EndsFrom ranges.now (N.number number) high }
-    ensures below { EndsBelow ranges.now (N.number number) result }
-    ensures from { EndsFrom ranges.now (N.number number) result }
-{
-    if high as usize <= low as usize + 4 {
-        among_four(ranges, low, number)
-    } else {
-        by_halves(ranges, low as usize, high as usize, number)
-    }
-}
 
 /// The hops of the addresses of a family: ranges, and cells and nodes that leave few of them for an address.
 ///
@@ -107,7 +52,7 @@ impl<N: Stored> Lookups<N> {
         Ok(Lookups { tops, cells, nodes })
     }
 
-    /// The entry of the cell of the number.
+    /// The entry of the number's cell.
     #[inline]
     pub(crate) fn entry(&self, number: N) -> u32
         ensures leads { Leads self.now.nodes self.now.ranges (N.number number) result }
@@ -116,25 +61,23 @@ impl<N: Stored> Lookups<N> {
         self.cells[cell_at(&self.tops, number.head())]
     }
 
-    /// The entry of the number's cell in a node. Any other entry stays.
+    /// The entry that nodes lead the number to.
     #[inline]
-    pub(crate) fn follow(&self, entry: u32, number: N) -> u32
+    pub(crate) fn last_entry(&self, entry: u32, number: N) -> u32
         requires number { N.number number < 2 ^ N.width }
         requires entry { Leads self.now.nodes self.now.ranges (N.number number) entry }
         ensures { Leads self.now.nodes self.now.ranges (N.number number) result }
     {
-        self.nodes.follow(entry, number)
+        self.nodes.last_entry(entry, number)
     }
 
-    /// The hop of the number, from an entry on.
-    #[inline]
+    /// The hop of the number, from its entry.
+    #[inline(always)]
     pub(crate) fn hop(&self, entry: u32, number: N) -> Option<u32>
         requires number { N.number number < 2 ^ N.width }
         requires entry { Leads self.now.nodes self.now.ranges (N.number number) entry }
         ensures { result ≡ hop_in self.now.ranges (N.number number) }
     {
-        let (low, high) = self.nodes.bounds(entry, number);
-        let place = ended(&self.nodes.ranges, low, high, number);
-        self.nodes.ranges.hop(place)
+        self.nodes.ranges.hop(self.nodes.ended(entry, number))
     }
 }
