@@ -178,10 +178,11 @@ def measured(bench):
         seen = [*others(bench, program, [side for side in sides if side != "rib"], feed)]
     head = ["networks", "addresses", "index", "index, 64", "longest match", "the crate's map", "`rte_fib`", "`rte_fib`, 64"]
     ways = [way for way in WAYS if way[0] != "rib"]
+    ratio_rows = ([*first, *compared(mix, least, ways)] for first, mix, least in seen)
     yield "Lookups in other tables", [
         page.filled(OTHERS),
         page.table([*head, "index: bytes a network", "index: ns a network"], other_times(seen)),
         page.filled(OTHER_RATIOS),
-        page.table(["networks", "addresses", *(title for *_, title in ways)], ([*first, *compared(mix, least, ways)] for first, mix, least in seen)),
+        page.table([*head[:2], *(title for *_, title in ways)], ratio_rows),
         page.filled(load.told(bench.runs)),
     ]
