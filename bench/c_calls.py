@@ -35,6 +35,8 @@ side without a call has `-`. The bytes of an index for a network are those of it
 RATIOS = """How many times as fast the index is as the other ways, for one address in a call; in the last column for 64. Below 1 it is
 slower."""
 
+OTHER_RATIOS = """How many times as fast the index is in these tables, as above."""
+
 OTHERS = """Nanoseconds for one address by the same calls, in tables of other kinds. Most have networks of one length, drawn evenly from a
 block. The last is the IPv4 feed with a network more inside each fifth of its networks, one to eight bits longer. Addresses are drawn
 from the networks, or anywhere from the block."""
@@ -107,12 +109,16 @@ def look_ups(parts):
                 yield [f"IP{family}, {mix}", title, *(calls.nanoseconds(least.get((side, call, mix))) for side in SIDES)]
 
 
+def compared(mix, least, ways=WAYS):
+    """The cells of a row: how many times as fast the index is as each other way."""
+    return [calls.times_as_fast(least.get((side, way, mix)), least["routes", of, mix]) for side, way, of, _ in ways]
+
+
 def ratios(parts):
     """A row for each family and mix: how many times as fast the index is as each other way."""
     for family, (_, least) in parts.items():
         for mix in feeds.MIXES:
-            cells = [calls.times_as_fast(least.get((side, way, mix)), least["routes", of, mix]) for side, way, of, _ in WAYS]
-            yield [f"IP{family}, {mix}", *cells]
+            yield [f"IP{family}, {mix}", *compared(mix, least)]
 
 
 def other_tables(bench, feed):
@@ -124,15 +130,21 @@ def other_tables(bench, feed):
 
 
 def others(bench, program, sides, feed):
-    """Two rows for each other table: by network, and anywhere. Each has the bytes and the making of the index for a network."""
+    """Two items for each other table, by network and anywhere: the first cells of its row, the mix, and the least times."""
     for name, family, adds, space in other_tables(bench, feed):
         mixes = ("even", "anywhere")
         _, least = timed(bench, program, sides, adds, family, mixes, space)
         for mix in mixes:
-            ways = (("routes", "index"), ("routes", "index_many"), ("routes", "match"), ("crate", "match"), ("fib", "index"), ("fib", "index_many"))
-            cells = [calls.nanoseconds(least.get((side, way, mix))) for side, way in ways]
-            cells += [calls.nanoseconds(least.get(("routes", call, None))) for call in ("index_bytes", "index_open")]
-            yield [name, "of a network" if mix == "even" else mix, *cells]
+            yield [name, "of a network" if mix == "even" else mix], mix, least
+
+
+def other_times(seen):
+    """A row for each of these items, with the bytes and the making of the index for a network."""
+    ways = (("routes", "index"), ("routes", "index_many"), ("routes", "match"), ("crate", "match"), ("fib", "index"), ("fib", "index_many"))
+    for first, mix, least in seen:
+        cells = [calls.nanoseconds(least.get((side, way, mix))) for side, way in ways]
+        cells += [calls.nanoseconds(least.get(("routes", call, None))) for call in ("index_bytes", "index_open")]
+        yield [*first, *cells]
 
 
 def version():
@@ -163,10 +175,14 @@ def measured(bench):
         page.filled(load.told(bench.runs)),
     ]
     with measure.Others() as load:
-        rows = [*others(bench, program, [side for side in sides if side != "rib"], feed)]
+        seen = [*others(bench, program, [side for side in sides if side != "rib"], feed)]
     head = ["networks", "addresses", "index", "index, 64", "longest match", "the crate's map", "`rte_fib`", "`rte_fib`, 64"]
+    ways = [way for way in WAYS if way[0] != "rib"]
+    ratio_rows = ([*first, *compared(mix, least, ways)] for first, mix, least in seen)
     yield "Lookups in other tables", [
         page.filled(OTHERS),
-        page.table([*head, "index: bytes a network", "index: ns a network"], rows),
+        page.table([*head, "index: bytes a network", "index: ns a network"], other_times(seen)),
+        page.filled(OTHER_RATIOS),
+        page.table([*head[:2], *(title for *_, title in ways)], ratio_rows),
         page.filled(load.told(bench.runs)),
     ]

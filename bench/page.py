@@ -74,8 +74,8 @@ class Results:
                 self.tables.setdefault(title, []).append([dict(zip(head, row)) for row in rows])
 
     def rows(self, title, at=0):
-        """The rows of a table of a part; none of a part that wasn't run."""
-        return self.tables.get(title, [[]] * (at + 1))[at]
+        """The rows of a table of a part; none if the part wasn't run or has fewer tables."""
+        return dict(enumerate(self.tables.get(title, []))).get(at, [])
 
     def row(self, title, *first):
         """The row of the part's tables that begins with these cells; if there is none, each cell is `-`."""
@@ -146,10 +146,11 @@ def lookups(results):
 
 
 def other_tables(results):
-    """Lookups from C in tables of other kinds."""
-    rows = results.rows(TITLES[6])
-    if rows:
-        yield "other tables", table([*rows[0]], [[*row.values()] for row in rows])
+    """Lookups from C in tables of other kinds, and how many times as fast the index is."""
+    times, ratios = (results.rows(TITLES[6], at) for at in (0, 1))
+    shown = [table([*rows[0]], [[*row.values()] for row in rows]) for rows in (times, ratios) if rows]
+    if shown:
+        yield "other tables", "\nHow many times as fast the index is as the other ways, in the last column for 64 a call:\n\n".join(shown)
 
 
 def changes(results):

@@ -1,5 +1,7 @@
 -- Nodes, which divide cells again, and the entries of cells.
-use Rattle.std.specs.Prelude.{ℕ, ◌+◌, ◌-◌, ◌/◌, ◌^◌, ◌<◌, ◌≤◌, List, Option, Some, None, length, min, slice_index, slice_index_or}
+use Rattle.std.specs.Prelude.{◌≡◌, ℕ, ◌+◌, ◌-◌, ◌/◌, ◌^◌, ◌<◌, ◌≤◌, List, Option, Some, None, length, min, slice_index, slice_index_or}
+use Rattle.ipnet_addr.specs.Addresses.{Address, Family, Ipv4, Ipv6}
+use Rattle.hop_index.specs.Indexes.{Index}
 use Rattle.hop_index.specs.Ranges.{HopRange}
 use Rattle.hop_index.specs.InnerRanges.{EndsBelow, EndsFrom, cell_of, head_of}
 
@@ -39,3 +41,25 @@ pub record AreEntries (cell : ℕ → ℕ) (end : ℕ) (nodes : List StoredNode)
 
 abbrev pub AreNodes : List HopRange → ℕ → List StoredNode → List ℕ → Type 0
 AreNodes rs end nodes cells = (k : ℕ) (d : StoredNode) → k < length nodes → AreEntries (λ x. (slice_index_or nodes k d).place + cell_in (slice_index_or nodes k d) x) end nodes rs (slice_index_or nodes k d).before (slice_index_or nodes k d).after cells
+
+-- ranges, and nodes that divide cells of them
+pub record Divided : Type 0 where
+  pub ranges : List HopRange
+  pub nodes : List StoredNode
+
+-- the ranges of both families
+abbrev pub index_of : Divided → Divided → Index
+index_of v4 v6 = record { v4 = v4.ranges; v6 = v6.ranges }
+
+-- the entry leads the address on among the ranges of its family
+abbrev pub LeadsAddress : Divided → Divided → Address → ℕ → Type 0
+LeadsAddress v4 v6 x entry = Leads (divided_of x.family v4 v6).nodes (divided_of x.family v4 v6).ranges x.number entry
+  where
+    divided_of : Family → Divided → Divided → Divided
+    divided_of Ipv4 v4 v6 = v4
+    divided_of Ipv6 v4 v6 = v6
+
+-- an entry for each address leads it on
+pub record AllLead {A : Type 0} (v4 v6 : Divided) (address : A → Address) (addrs : List A) (entries : List ℕ) : Type 0 where
+  pub all : length entries ≡ length addrs
+  pub each : (k : ℕ) (a : A) (e : ℕ) → k < length addrs → LeadsAddress v4 v6 (address (slice_index_or addrs k a)) (slice_index_or entries k e)

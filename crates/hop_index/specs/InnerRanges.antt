@@ -1,9 +1,8 @@
 -- Ascending ranges, the cells that narrow a search in them, and the runs of a flat list.
 use Rattle.std.specs.Prelude.{◌≡◌, ◌==◌, ℕ, ◌+◌, ◌*◌, ◌/◌, ◌%◌, ◌-◌, ◌^◌, ◌<◌, ◌≤◌, ◌&&◌, nat_le, not, if◌then◌else◌, Bool, false, List, [], ◌∷◌, Option, Some, None, All, AllPairs, filter, length, map, slice_index, slice_index_or}
-use Rattle.ipnet_addr.specs.Addresses.{Address, Family, same_family}
+use Rattle.ipnet_addr.specs.Addresses.{Family, same_family}
 use Rattle.ipnet_blocks.specs.Blocks.{first, last}
 use Rattle.route_laws.specs.Flats.{Piece}
-use Rattle.hop_index.specs.Indexes.{Index, ranges_of}
 use Rattle.hop_index.specs.Ranges.{HopRange, hop_in}
 
 -- a range as an index stores it: 2 ^ 32 - 1 stands for no hop, unless a mark says that it is the hop
@@ -96,12 +95,3 @@ span_of p = record { first = first p.block; last = last p.block; hop = p.number 
 
 abbrev pub spans_in : Family → List Piece → List HopSpan
 spans_in f ps = map span_of (filter (λ p. same_family p.block.family f) ps)
-
--- at least the first and at most the second number of ranges end below the address
-abbrev pub IsWithin : Index → Address → ℕ × ℕ → Type 0
-IsWithin i x b = EndsBelow (ranges_of x.family i) x.number b.0 × EndsFrom (ranges_of x.family i) x.number b.1
-
--- bounds for each address
-pub record AreBounds {A : Type 0} (i : Index) (address : A → Address) (addrs : List A) (bounds : List (ℕ × ℕ)) : Type 0 where
-  pub all : length bounds ≡ length addrs
-  pub each : (k : ℕ) (a : A) (b : ℕ × ℕ) → k < length addrs → IsWithin i (address (slice_index_or addrs k a)) (slice_index_or bounds k b)

@@ -1,15 +1,15 @@
 //! Lookups of many addresses, in steps, so that reads of memory for several addresses overlap.
-ghost use Rattle.std.specs.Prelude.{◌≡◌, ℕ, ◌≤◌, length, map};
+ghost use Rattle.std.specs.Prelude.{◌≡◌, ℕ, length, map};
 ghost use Rattle.ipnet_addr.specs.Addresses.{Address, Ipv4, address_of};
 ghost use Rattle.hop_index.specs.Indexes.{hop_of};
-ghost use Rattle.hop_index.specs.InnerRanges.{AreBounds};
+ghost use Rattle.hop_index.specs.InnerNodes.{AllLead, index_of};
 
-use crate::index::HopIndex;
+use crate::index::Sides;
 use ipnet::IpAddr;
 use ipnet_addr::bits::ipv4_of;
 
 /// The number of addresses that go through the steps together.
-const GROUP: usize = 16;
+const GROUP: usize = 32;
 
 /// An address in a form of its own.
 pub trait Addressed: Copy {
@@ -40,52 +40,51 @@ impl Addressed for u32 {
     }
 }
 
-/// The first step: bounds for each address.
-fn narrow<A: Addressed>(index: &HopIndex, addrs: &[A], bounds: &mut [(u32, u32)])
-    requires { length bounds.old ≡ length addrs.now }
-    ensures { AreBounds index.now A.address addrs.now bounds.new }
+/// The first step: the entry of each address's cell.
+fn enter<A: Addressed>(sides: &Sides, addrs: &[A], entries: &mut [u32])
+    requires { length entries.old ≡ length addrs.now }
+    ensures { AllLead sides.now.v4 sides.now.v6 A.address addrs.now entries.new }
 {
     for place in 0..addrs.len() {
-        bounds[place] = index.bounds(addrs[place].addr());
+        entries[place] = sides.entry(addrs[place].addr());
     }
 }
 
-/// The second step: the hop of each address, with its bounds.
-fn find<A: Addressed>(
-    index: &HopIndex,
-    addrs: &[A],
-    bounds: &[(u32, u32)],
-    hops: &mut [Option<u32>],
-)
-    requires bounds { AreBounds index.now A.address addrs.now bounds.now }
-    requires hops { length hops.old ≡ length addrs.now }
-    ensures { hops.new ≡ map (λ addr. hop_of index.now (A.address addr)) addrs.now }
+/// The second step: the entry that nodes lead each address to.
+fn follow<A: Addressed>(sides: &Sides, addrs: &[A], entries: &mut [u32])
+    requires { AllLead sides.now.v4 sides.now.v6 A.address addrs.now entries.old }
+    ensures { AllLead sides.now.v4 sides.now.v6 A.address addrs.now entries.new }
 {
     for place in 0..addrs.len() {
-        hops[place] = index.hop_within(addrs[place].addr(), bounds[place]);
+        entries[place] = sides.last_entry(entries[place], addrs[place].addr());
     }
 }
 
-/// Stores the hops of at most as many addresses as go through the steps together.
-fn store_group<A: Addressed>(index: &HopIndex, addrs: &[A], hops: &mut [Option<u32>])
-    requires few { length addrs.now ≤ 16 }
+/// The third step: the hop of each address, from its entry.
+fn find<A: Addressed>(sides: &Sides, addrs: &[A], entries: &[u32], hops: &mut [Option<u32>])
+    requires entries { AllLead sides.now.v4 sides.now.v6 A.address addrs.now entries.now }
     requires hops { length hops.old ≡ length addrs.now }
-    ensures { hops.new ≡ map (λ addr. hop_of index.now (A.address addr)) addrs.now }
+    ensures { hops.new ≡ map (λ addr. hop_of (index_of sides.now.v4 sides.now.v6) (A.address addr)) addrs.now }
 {
-    let mut bounds = [(0, 0); GROUP];
-    narrow(index, addrs, &mut bounds[..addrs.len()]);
-    find(index, addrs, &bounds[..addrs.len()], hops);
+    for place in 0..addrs.len() {
+        hops[place] = sides.hop(entries[place], addrs[place].addr());
+    }
 }
 
 /// Stores the hops of all addresses, group by group.
-pub(crate) fn store_all<A: Addressed>(index: &HopIndex, addrs: &[A], hops: &mut [Option<u32>])
+pub(crate) fn store_all<A: Addressed>(sides: &Sides, addrs: &[A], hops: &mut [Option<u32>])
     requires { length hops.old ≡ length addrs.now }
-    ensures { hops.new ≡ map (λ addr. hop_of index.now (A.address addr)) addrs.now }
+    ensures { hops.new ≡ map (λ addr. hop_of (index_of sides.now.v4 sides.now.v6) (A.address addr)) addrs.now }
 {
+    let mut entries = [0; GROUP];
     let mut place = 0;
     while place < addrs.len() {
         let end = place + (addrs.len() - place).min(GROUP);
-        store_group(index, &addrs[place..end], &mut hops[place..end]);
+        let group = &addrs[place..end];
+        let entries = &mut entries[..group.len()];
+        enter(sides, group, entries);
+        follow(sides, group, entries);
+        find(sides, group, entries, &mut hops[place..end]);
         place = end;
     }
 }

@@ -30,8 +30,7 @@ pub(crate) fn tops_of<N: Stored>(alloc: Global, ranges: &Ranges<N>) -> Result<Ve
     let mut place = 0;
     for chunk in 0..CHUNKS + 1 {
         tops.push((place + chunk) as u32)?;
-        let next = after_chunk(ranges, place, chunk as u64);
-        place = next;
+        place = after_chunk(ranges, place, chunk as u64);
     }
     Ok(tops)
 }

@@ -6,7 +6,8 @@ ghost use Rattle.route_laws.specs.Networks.{routes_of};
 ghost use Rattle.route_laws.specs.Tables.{hop_at};
 ghost use Rattle.prefix_trie.specs.declared.refused.Refused.TheVariants.{Memory};
 ghost use Rattle.hop_index.specs.Indexes.{hop_of};
-ghost use Rattle.hop_index.specs.InnerRanges.{AreRangesOf, IsWithin, spans_in};
+ghost use Rattle.hop_index.specs.InnerNodes.{LeadsAddress, index_of};
+ghost use Rattle.hop_index.specs.InnerRanges.{AreRangesOf, spans_in};
 
 use crate::batches::{Addressed, store_all};
 use crate::lookups::Lookups;
@@ -36,21 +37,66 @@ fn ranges(alloc: Global, mut flat: Flat<'_>) -> Result<(Ranges<u32>, Ranges<Halv
     Ok((v4, v6))
 }
 
+/// The lookups of both families.
+#[derive(Drop)]
+pub(crate) struct Sides {
+    v4: Lookups<u32>,
+    v6: Lookups<Halves>,
+}
+
+impl Sides {
+    /// The entry of the address's cell.
+    #[inline(always)]
+    pub(crate) fn entry(&self, addr: IpAddr) -> u32
+        ensures leads { LeadsAddress self.now.v4 self.now.v6 (address_of addr) result }
+        ensures address { IsAddress (address_of addr) }
+    {
+        match addr {
+            IpAddr::V4(addr) => self.v4.entry(u32::of_addr(addr)),
+            IpAddr::V6(addr) => self.v6.entry(Halves::of_bits(u128::of_addr(addr))),
+        }
+    }
+
+    /// The entry that nodes lead the address to.
+    #[inline(always)]
+    pub(crate) fn last_entry(&self, entry: u32, addr: IpAddr) -> u32
+        requires { LeadsAddress self.now.v4 self.now.v6 (address_of addr) entry }
+        ensures { LeadsAddress self.now.v4 self.now.v6 (address_of addr) result }
+    {
+        match addr {
+            IpAddr::V4(addr) => self.v4.last_entry(entry, u32::of_addr(addr)),
+            IpAddr::V6(addr) => self.v6.last_entry(entry, Halves::of_bits(u128::of_addr(addr))),
+        }
+    }
+
+    /// The hop of the address, from its entry.
+    #[inline(always)]
+    pub(crate) fn hop(&self, entry: u32, addr: IpAddr) -> Option<u32>
+        requires { LeadsAddress self.now.v4 self.now.v6 (address_of addr) entry }
+        ensures { result ≡ hop_of (index_of self.now.v4 self.now.v6) (address_of addr) }
+    {
+        match addr {
+            IpAddr::V4(addr) => self.v4.hop(entry, u32::of_addr(addr)),
+            IpAddr::V6(addr) => self.v6.hop(entry, Halves::of_bits(u128::of_addr(addr))),
+        }
+    }
+}
+
 /// The hop of each address, as a table had it when the index was made. The index is a snapshot: later changes don't reach it.
 ///
 /// Contracts see it by `hop_of`, the hop of each address.
 #[derive(Drop)]
 pub struct HopIndex {
-    v4: Lookups<u32>,
-    v6: Lookups<Halves>,
+    sides: Sides,
 }
 
 impl Model for HopIndex {
     ghost use Rattle.hop_index.specs.Indexes.{Index};
+    ghost use Rattle.hop_index.specs.InnerNodes.{index_of};
 
     ghost Value = { Index };
 
-    ghost view = { λ i. record { v4 = i.v4; v6 = i.v6 } };
+    ghost view = { λ i. index_of i.sides.v4 i.sides.v6 };
 }
 
 impl HopIndex {
@@ -71,8 +117,7 @@ impl HopIndex {
         ensures hops { IfOk result (λ i. (x : Address) → IsAddress x → hop_of i x ≡ hop_at (routes_of table.now) x) }
         ensures memory { IfErr result (λ e. e ≡ Memory) }
     {
-        let flat = table.flat();
-        HopIndex::from_flat(alloc, flat)
+        HopIndex::from_flat(alloc, table.flat())
     }
 
     /// Compiles an index of the hops of a table with one route for each network. `drop` and no route are both `None`.
@@ -90,8 +135,7 @@ impl HopIndex {
         ensures hops { IfOk result (λ i. (x : Address) → IsAddress x → hop_of i x ≡ hop_at (routes_of table.now) x) }
         ensures memory { IfErr result (λ e. e ≡ Memory) }
     {
-        let flat = table.flat();
-        HopIndex::from_flat(alloc, flat)
+        HopIndex::from_flat(alloc, table.flat())
     }
 
     /// Compiles an index of the hops of a flat list, such as the result of `RouteTable::flat`. All other addresses have no hop.
@@ -108,18 +152,11 @@ impl HopIndex {
         ensures hops { IfOk result (λ i. (h : Address → Option ℕ) → IsFlat h flat.entry → (x : Address) → IsAddress x → hop_of i x ≡ h x) }
         ensures memory { IfErr result (λ e. e ≡ Memory) }
     {
-        Ok(HopIndex::compiled(alloc, flat)?)
-    }
-
-    /// `from_flat`, with the allocator's own error.
-    fn compiled(alloc: Global, flat: Flat<'_>) -> Result<HopIndex, AllocError>
-        requires { (h : Address → Option ℕ) × IsFlat h flat }
-        ensures { IfOk result (λ i. (h : Address → Option ℕ) → IsFlat h flat.entry → (x : Address) → IsAddress x → hop_of i x ≡ h x) }
-    {
         let (v4, v6) = ranges(alloc, flat)?;
+        let v4 = Lookups::new(alloc, v4)?;
+        let v6 = Lookups::new(alloc, v6)?;
         Ok(HopIndex {
-            v4: Lookups::new(alloc, v4)?,
-            v6: Lookups::new(alloc, v6)?,
+            sides: Sides { v4, v6 },
         })
     }
 
@@ -137,35 +174,8 @@ impl HopIndex {
         ensures hop { result ≡ hop_of self.now (address_of addr) }
         ensures address { IsAddress (address_of addr) }
     {
-        match addr {
-            IpAddr::V4(addr) => self.v4.hop(u32::of_addr(addr)),
-            IpAddr::V6(addr) => self.v6.hop(Halves::of_bits(u128::of_addr(addr))),
-        }
-    }
-
-    /// Bounds of the number of ranges that end below the address.
-    #[inline(always)]
-    pub(crate) fn bounds(&self, addr: IpAddr) -> (u32, u32)
-        ensures { IsWithin self.now (address_of addr) result }
-    {
-        match addr {
-            IpAddr::V4(addr) => self.v4.bounds(u32::of_addr(addr)),
-            IpAddr::V6(addr) => self.v6.bounds(Halves::of_bits(u128::of_addr(addr))),
-        }
-    }
-
-    /// The hop of the address, with its bounds.
-    #[inline(always)]
-    pub(crate) fn hop_within(&self, addr: IpAddr, bounds: (u32, u32)) -> Option<u32>
-        requires { IsWithin self.now (address_of addr) bounds }
-        ensures { result ≡ hop_of self.now (address_of addr) }
-    {
-        match addr {
-            IpAddr::V4(addr) => self.v4.hop_within(u32::of_addr(addr), bounds),
-            IpAddr::V6(addr) => self
-                .v6
-                .hop_within(Halves::of_bits(u128::of_addr(addr)), bounds),
-        }
+        let entry = self.sides.last_entry(self.sides.entry(addr), addr);
+        self.sides.hop(entry, addr)
     }
 
     /// Stores the hops of the addresses in `hops`, in the same order; both slices must have the same length. Does not allocate.
@@ -183,7 +193,7 @@ impl HopIndex {
         requires { length hops.old ≡ length addrs.now }
         ensures { hops.new ≡ map (λ addr. hop_of self.now (address_of addr)) addrs.now }
     {
-        store_all(self, addrs, hops);
+        store_all(&self.sides, addrs, hops);
     }
 
     /// Stores the hops of addresses in a form of their own, such as IPv4 addresses as `u32`. Else as `hops`.
@@ -201,6 +211,6 @@ impl HopIndex {
         requires { length hops.old ≡ length addrs.now }
         ensures { hops.new ≡ map (λ addr. hop_of self.now (A.address addr)) addrs.now }
     {
-        store_all(self, addrs, hops);
+        store_all(&self.sides, addrs, hops);
     }
 }

@@ -1,7 +1,7 @@
 //! Nodes: cells in which many ranges end, divided again.
 ghost use Rattle.std.specs.Prelude.{◌≡◌, ℕ, ◌+◌, ◌-◌, ◌^◌, ◌<◌, ◌≤◌, ◌++◌, [], ◌∷◌, List, Some, IfOk, OnOk, length, option_copied, slice_index_or};
 ghost use Rattle.hop_index.specs.Ranges.{HopRange, hop_in};
-ghost use Rattle.hop_index.specs.InnerRanges.{ArePadded, AreTops, EndsBelow, EndsFrom};
+ghost use Rattle.hop_index.specs.InnerRanges.{AreAscending, ArePadded, AreTops, EndsBelow, EndsFrom};
 ghost use Rattle.hop_index.specs.InnerNodes.{AreEntries, AreNodes, IsBetween, Leads, StoredNode, cell_by, cell_in};
 
 use crate::cells::cell_at;
@@ -244,7 +244,7 @@ impl<N: Stored> Nodes<N> {
 
     /// The entry that nodes lead a number to.
     #[inline]
-    fn last_entry(&self, mut entry: u32, number: N) -> u32
+    pub(crate) fn last_entry(&self, mut entry: u32, number: N) -> u32
         requires nodes { AreNodes self.now.ranges (2 ^ N.width) self.now.nodes.items self.now.cells.items }
         requires number { N.number number < 2 ^ N.width }
         requires entry { Leads self.now.nodes.items self.now.ranges (N.number number) entry }
@@ -260,19 +260,18 @@ impl<N: Stored> Nodes<N> {
         entry
     }
 
-    /// Bounds of the number of ranges that end below a number, from the entry of its cell.
+    /// The number of ranges that end below a number, from its entry.
     #[inline]
-    pub(crate) fn bounds(&self, entry: u32, number: N) -> (u32, u32)
-        requires nodes { AreNodes self.now.ranges (2 ^ N.width) self.now.nodes.items self.now.cells.items }
-        requires number { N.number number < 2 ^ N.width }
+    pub(crate) fn ended(&self, entry: u32, number: N) -> usize
+        requires ascending { AreAscending self.now.ranges }
         requires entry { Leads self.now.nodes.items self.now.ranges (N.number number) entry }
-        ensures below { EndsBelow self.now.ranges (N.number number) result.0 }
-        ensures from { EndsFrom self.now.ranges (N.number number) result.1 }
+        ensures below { EndsBelow self.now.ranges (N.number number) result }
+        ensures from { EndsFrom self.now.ranges (N.number number) result }
     {
-        let entry = self.last_entry(entry, number);
         if entry < MARK {
-            return (entry, entry + 4);
+            return self.ranges.among_four(entry, number);
         }
-        self.nodes[(entry - MARK) as usize].bounds()
+        let (low, high) = self.nodes[(entry - MARK) as usize].bounds();
+        self.ranges.by_halves(low as usize, high as usize, number)
     }
 }

@@ -1,7 +1,7 @@
 //! The ranges of one hop, or of none, that the addresses of a family fall into.
 ghost use Rattle.std.specs.Prelude.{◌≡◌, ℕ, ◌+◌, ◌-◌, ◌^◌, ◌<◌, ◌≤◌, ◌↔◌, ◌++◌, [], ◌∷◌, Option, Some, None, IsTrue, OnOk, false, length, nat_le, slice_index_or, if◌then◌else◌};
 ghost use Rattle.hop_index.specs.Ranges.{HopRange, hop_in};
-ghost use Rattle.hop_index.specs.InnerRanges.{AreAscending, ArePadded, EndsBelow, is_in};
+ghost use Rattle.hop_index.specs.InnerRanges.{AreAscending, ArePadded, EndsBelow, EndsFrom, is_in};
 
 use crate::stored::Stored;
 use std::alloc::{AllocError, Global};
@@ -153,6 +153,44 @@ impl<N: Stored> Ranges<N> {
     {
         let end = self.len();
         end == 0 || self.last(end - 1).is_below(number)
+    }
+
+    /// The number of ranges that end below the number, if that is at least `low` and at most `low + 4`.
+    #[inline]
+    pub(crate) fn among_four(&self, low: u32, number: N) -> usize
+        requires ascending { AreAscending self.now }
+        requires low { EndsBelow self.now (N.number number) low }
+        requires high { EndsFrom self.now (N.number number) (low + 4) }
+        ensures below { EndsBelow self.now (N.number number) result }
+        ensures from { EndsFrom self.now (N.number number) result }
+    {
+        let low = low as usize;
+        let mut count = low;
+        for step in 0..4 {
+            if self.last(low + step).is_below(number) {
+                count += 1;
+            }
+        }
+        count
+    }
+
+    /// The number of ranges that end below the number, if that is at least `low` and at most `high`.
+    pub(crate) fn by_halves(&self, mut low: usize, mut high: usize, number: N) -> usize
+        requires ascending { AreAscending self.now }
+        requires low { EndsBelow self.now (N.number number) low }
+        requires high { EndsFrom self.now (N.number number) high }
+        ensures below { EndsBelow self.now (N.number number) result }
+        ensures from { EndsFrom self.now (N.number number) result }
+    {
+        while low < high {
+            let middle = low + (high - low) / 2;
+            if self.last(middle).is_below(number) {
+                low = middle + 1;
+            } else {
+                high = middle;
+            }
+        }
+        low
     }
 
     /// Adds a range without a hop up to the number before this one, unless a range ends there. All ranges must end below the number.

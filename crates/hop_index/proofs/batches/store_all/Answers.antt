@@ -1,5 +1,7 @@
-use Rattle.std.proofs.Common.{◌+◌, ◌≤◌, ℕ, length, arith}
+use Rattle.std.proofs.Common.{◌≡◌, ◌+◌, ◌-◌, ◌≤◌, ℕ, length, length-append, length-drop, length-take, arith}
+use Rattle.std.proofs.lemmas.List.{length-map}
 use Rattle.hop_index.specs.Indexes.{hop_of}
+use Rattle.hop_index.specs.InnerNodes.{index_of}
 use Rattle.hop_index.proofs.Groups.{one_more_group}
 use Rattle.hop_index.proofs.batches.store_all.Goals as goal
 
@@ -9,8 +11,8 @@ loop-place-preserved g c =
     let i = c.loop-place.invariant in
     let within : end ≤ length c.args.addrs.now = omega (arith, c.min.ensures, i.within) in
     record {
-      as_long = search;
+      as_long = let n : length c.find.new.hops ≡ end - c.loop-place.place = grind (arith, c.find.ensures, length-map, length-take, length-drop) in grind (arith, n, i.as_long, length-append, length-take, length-drop);
       within = within;
-      done = one_more_group (λ addr. hop_of c.args.index.now (g.A.Addressed.address addr)) c.args.addrs.now c.loop-place.hops c.store_group.new.hops c.loop-place.place end
-          (omega arith) within i.as_long c.store_group.ensures i.done;
+      done = one_more_group (λ addr. hop_of (index_of c.args.sides.now.v4 c.args.sides.now.v6) (g.A.Addressed.address addr)) c.args.addrs.now c.loop-place.hops c.find.new.hops c.loop-place.place end
+          (omega arith) within i.as_long c.find.ensures i.done;
     }
