@@ -3,6 +3,7 @@ use Rattle.std.specs.Prelude.{ℕ, ◌+◌, ◌<◌, ◌≤◌, ◌≡◌, lengt
 use Rattle.std.specs.FinMap.{get}
 use Rattle.trie_core.specs.Nodes.{BitMap, Seen}
 use Rattle.trie_core.specs.Count.{node_visits}
+use Rattle.trie_core.specs.Inside.{NothingInside}
 
 -- no prefix of q of fewer than `high` bits is a key
 abbrev pub NoneBelow : {X : Type 0} → BitMap X → List Bool → ℕ → Type 0
@@ -27,3 +28,7 @@ pub record HasNoChild {X : Type 0} (q : List Bool) (m : Seen X) : Type 0 where
   pub gets : (r : List Bool) → get m.entries (take 5 q ++ r) ≡ None
   pub spares : (r : List Bool) → get m.spares (take 5 q ++ r) ≡ None
   pub visits : node_visits m.entries m.spares q ≡ 1
+
+-- no key and no spare node of m is strictly inside q
+abbrev pub IsLeaf : {X : Type 0} → Seen X → List Bool → Type 0
+IsLeaf m q = NothingInside m.entries q × NothingInside m.spares q
