@@ -5,7 +5,6 @@ use Rattle.std.specs.Option.{IsSome}
 use Rattle.std.specs.Ordering.{nat_cmp}
 use Rattle.std.specs.FinMap.{get, insert, put, find, empty}
 use Rattle.std.proofs.lemmas.Bool.Decides.{nat_tests}
-use Rattle.std.proofs.lemmas.List.{set-get_or}
 use Rattle.trie_core.specs.InnerPlaces.{child_of, at_places, IsUnset}
 use Rattle.trie_core.specs.Nodes.{Seen}
 use Rattle.trie_core.specs.InnerExchanges.{IsExchanged}
