@@ -127,6 +127,19 @@ impl<C: Drop, T: Drop> Shape<C, T> {
         ensures values { shape_values self.new ≡ remove (shape_values self.old) at }
         ensures children { shape_children self.new ≡ shape_children self.old }
     {
+        match self {
+            Shape::Values(values) => {
+                if values.len() > 2 {
+                    return values.remove(at);
+                }
+            }
+            Shape::Both(_, values) => {
+                if values.len() > 1 {
+                    return values.remove(at);
+                }
+            }
+            _ => {}
+        }
         replace_with(self, at, Shape::without_value)
     }
 
@@ -166,7 +179,11 @@ impl<C: Drop, T: Drop> Shape<C, T> {
         ensures children { shape_children self.new ≡ shape_children self.old }
         ensures ok { OnOk result (HasRoom self.new) }
     {
-        replace_with(self, more, Shape::with_room)
+        match self {
+            Shape::Children(children) => reserve(children, more, LARGE),
+            Shape::Both(children, _) => reserve(children, more, LARGE),
+            _ => replace_with(self, more, Shape::with_room),
+        }
     }
 
     fn with_room(self, more: usize) -> (Shape<C, T>, Result<(), AllocError>)
@@ -202,21 +219,11 @@ impl<C: Drop, T: Drop> Shape<C, T> {
         ensures values { shape_values self.new ≡ shape_values self.old }
         ensures children { shape_children self.new ≡ insert (shape_children self.old) at child }
     {
-        replace_with(self, (at, child), Shape::with_child)
-    }
-
-    fn with_child(self, place: (usize, C)) -> (Shape<C, T>, ())
-        requires within { place.0 ≤ length (shape_children self) }
-        requires room { HasRoom self }
-        ensures values { shape_values result.0 ≡ shape_values self }
-        ensures children { shape_children result.0 ≡ insert (shape_children self) place.0 place.1 }
-    {
-        let (at, child) = place;
         match self {
             Shape::One(_, _) => unreachable!(),
             Shape::Values(_) => unreachable!(),
-            Shape::Children(children) => (Shape::Children(put(children, at, child)), ()),
-            Shape::Both(children, values) => (Shape::Both(put(children, at, child), values), ()),
+            Shape::Children(children) => put(children, at, child),
+            Shape::Both(children, _) => put(children, at, child),
         }
     }
 
@@ -228,6 +235,19 @@ impl<C: Drop, T: Drop> Shape<C, T> {
         ensures values { shape_values self.new ≡ shape_values self.old }
         ensures children { shape_children self.new ≡ remove (shape_children self.old) at }
     {
+        match self {
+            Shape::Children(children) => {
+                if children.len() > 1 {
+                    return children.remove(at);
+                }
+            }
+            Shape::Both(children, _) => {
+                if children.len() > 1 {
+                    return children.remove(at);
+                }
+            }
+            _ => {}
+        }
         replace_with(self, at, Shape::without_child)
     }
 
@@ -270,6 +290,15 @@ impl<C: Drop, T: Drop> Shape<C, T> {
         ensures children { shape_children self.new ≡ shape_children self.old }
         ensures value_returned { IfErr result (λ t. t ≡ value) }
     {
+        match self {
+            Shape::Values(values) => {
+                if values.len() > 0 {
+                    return insert_in(values, at, value);
+                }
+            }
+            Shape::Both(_, values) => return insert_in(values, at, value),
+            _ => {}
+        }
         replace_with(self, (at, value), Shape::with_value)
     }
 
@@ -354,17 +383,15 @@ fn settled<C: Drop, T: Drop>(values: ShortVec<T>) -> Shape<C, T>
     Shape::Values(values)
 }
 
-/// The list with the item inserted at the index `at`. There is room for it.
-fn put<X: Drop>(items: ShortVec<X>, at: usize, item: X) -> ShortVec<X>
-    requires within { at ≤ length (short_items items) }
-    requires room { short_len items < short_capacity items }
-    ensures { short_items result ≡ insert (short_items items) at item }
+/// Inserts the item at the index `at`, and moves the later items up. There is room for it.
+fn put<X: Drop>(items: &mut ShortVec<X>, at: usize, item: X)
+    requires within { at ≤ length (short_items items.old) }
+    requires room { short_len items.old < short_capacity items.old }
+    ensures { short_items items.new ≡ insert (short_items items.old) at item }
 {
-    let mut items = items;
     let Ok(()) = items.insert(at, item) else {
         unreachable!()
     };
-    items
 }
 
 /// An empty list with room for `more` children, and a list of one value, in a box. If out of memory, the value.

@@ -5,7 +5,6 @@ use Rattle.std.specs.Option.{IsSome}
 use Rattle.std.specs.Ordering.{nat_cmp}
 use Rattle.std.specs.FinMap.{get, insert, put, find, empty}
 use Rattle.std.proofs.lemmas.Bool.Decides.{nat_tests}
-use Rattle.std.proofs.lemmas.List.{set-get_or}
 use Rattle.trie_core.specs.InnerPlaces.{child_of, at_places, IsUnset}
 use Rattle.trie_core.specs.Nodes.{Seen}
 use Rattle.trie_core.specs.InnerExchanges.{IsExchanged}
@@ -16,7 +15,8 @@ use Rattle.trie_core.proofs.Seen.{IsSeen, viewed, seen, is_child}
 use Rattle.trie_core.proofs.Changes.{was, set_put, set_slots, set_count, set_height, was_lower, absent, hung, depth_rest, new_nodes}
 use Rattle.trie_core.proofs.Marks.{no_spares}
 use Rattle.trie_core.proofs.Ways.{off_none, below_off, hung_off}
-use Rattle.trie_core.proofs.Leaves.{IsLeaf, leaf_below}
+use Rattle.trie_core.specs.InnerSearch.{IsLeaf}
+use Rattle.trie_core.proofs.Leaves.{leaf_below}
 use Rattle.trie_core.specs.InnerNodes.{HasSlots}
 use Rattle.std.proofs.lemmas.Cmp.{nat_cmp_total}
 use Rattle.std.specs.FinMap.Entries.{find-put}

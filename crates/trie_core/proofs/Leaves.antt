@@ -11,7 +11,7 @@ use Rattle.std.proofs.lemmas.Nat.Bits.{bit_at_and, bit_at-lt, bit_at-zero, bit_a
 use Rattle.ipnet_blocks.specs.BitStrings.{bits_cmp, begins}
 use Rattle.ipnet_blocks.proofs.BitStrings.{begins_on, begun_rest}
 use Rattle.trie_core.specs.InnerPlaces.{place_from, place_of, child_of, place_string, child_string, at_places}
-use Rattle.trie_core.specs.InnerSearch.{IsChild, HasNoChild}
+use Rattle.trie_core.specs.InnerSearch.{IsChild, HasNoChild, IsLeaf}
 use Rattle.trie_core.specs.Inside.{NothingInside}
 use Rattle.trie_core.specs.Nodes.{BitMap, Seen}
 use Rattle.trie_core.specs.InnerCount.{marked}
@@ -165,10 +165,6 @@ module _ {X : Type 0} where
       held x b k z {i} n l five t =
           let none = no_child_inside q x b k s f g z five (find nat_cmp (child_of x) (at_places 32 0 cb cs)) refl in
           some_at i cb cs l t s.slots.children_counted (ap (λ j. find nat_cmp j (at_places 32 0 cb cs)) (sym n) ∙ none)
-
-  -- nothing stands inside q in m
-  abbrev pub IsLeaf : Seen X → List Bool → Type 0
-  IsLeaf m q = NothingInside m.entries q × NothingInside m.spares q
 
   pub leaf_below : {m c : Seen X} {q r : List Bool} → IsChild q m c → r ≡ drop 5 q → IsLeaf c r ↔ IsLeaf m q
   leaf_below {m} {c} {q} {r} h e =

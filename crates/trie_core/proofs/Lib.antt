@@ -25,6 +25,7 @@ pub mod Taken
 pub mod Named
 pub mod Seen
 pub mod Searches
+pub mod Matches
 pub mod Changes
 pub mod Lent
 pub mod Kept

@@ -175,7 +175,7 @@ module _ {X : Type 0} where
     | inr e ↦ deeper d k a e ∙ g (k - d) (omega arith) (omega (arith, way_left d a))
   ]
 
-  found_deeper : {m n : Seen X} {q p : List Bool} (d len : ℕ) {v : X} → IsAt m q d n p → IsLongestBelow n.entries p 5 len v → IsLongestBelow m.entries q (d + 5) (d + len) v
+  pub found_deeper : {m n : Seen X} {q p : List Bool} (d len : ℕ) {v : X} → IsAt m q d n p → IsLongestBelow n.entries p 5 len v → IsLongestBelow m.entries q (d + 5) (d + len) v
   found_deeper {m} {n} {q} {p} d len a f = record {
     below = omega (arith, f.below);
     within = omega (arith, f.within, way_left d a);
@@ -187,23 +187,6 @@ module _ {X : Type 0} where
     -- the best of the beginnings of q of fewer than high bits
     abbrev pub IsBest : BitMap X → List Bool → ℕ → Option (ℕ × S) → Type 0
     IsBest m q high o = MatchOption o (NoneBelow m q high) (λ r. IsLongestBelow m q high r.0 (v r.1))
-
-    pub best_deeper : {m n : Seen X} {q p : List Bool} (d : ℕ) (best found after : Option (ℕ × S)) → IsAt m q d n p → IsBest m.entries q d best → IsBest n.entries p 5 found → MatchOption found (after ≡ best) (λ r. after ≡ Some (d + r.0, r.1)) → IsBest m.entries q (d + 5) after
-    best_deeper {m} {n} {q} {p} d None None after a f g e = subst (IsBest m.entries q (d + 5)) (sym e) (none_deeper d 5 a f g)
-    best_deeper {m} {n} {q} {p} d (Some b) None after a f g e = subst (IsBest m.entries q (d + 5)) (sym e) (record {
-      below = omega (arith, f.below);
-      within = f.within;
-      found = f.found;
-      longest = λ k h j i. elim (cases_lt k d) [
-        | inl e ↦ f.longest k h e i
-        | inr e ↦ deeper d k a e ∙ g (k - d) (omega arith) (omega (arith, way_left d a))
-      ];
-    })
-    best_deeper {m} {n} {q} {p} d best (Some r) after a f g e = subst (IsBest m.entries q (d + 5)) (sym e) (found_deeper d r.0 a g)
-
-    pub longest_in_byte : (m : BitMap X) (q : List Bool) (o : Option (ℕ × S)) → length q ≤ 128 → MatchOption o (NoBeginning m q) (λ r. IsLongest m q r.0 (v r.1)) → MatchOption o (Unit {0}) (λ r. r.0 < 256)
-    longest_in_byte m q None h f = tt
-    longest_in_byte m q (Some r) h f = omega (arith, h, f.within)
 
     pub best_whole : (m : BitMap X) (q : List Bool) (high : ℕ) (o : Option (ℕ × S)) → length q < high → IsBest m q high o → MatchOption o (NoBeginning m q) (λ r. IsLongest m q r.0 (v r.1))
     best_whole m q high None h f = λ k l. f k (omega (arith, h, l)) l
@@ -254,13 +237,3 @@ module _ {X : Type 0} where
 
   pub none_stop : {m n : Seen X} {q p : List Bool} (d : ℕ) → IsAt m q d n p → 5 ≤ length p → HasNoChild p n → NoneBelow m.entries q (d + 5) → NoBeginning m.entries q
   none_stop d a h e f = best_stop {S = X} (λ s. s) d None a h e f
-
-  module _ {S : Type 0} (v : S → X) where
-    pub shortest_in_byte : (m : BitMap X) (q : List Bool) (o : Option (ℕ × S)) → length q ≤ 128 → MatchOption o (NoBeginning m q) (λ r. IsShortest m q r.0 (v r.1)) → MatchOption o (Unit {0}) (λ r. r.0 < 256)
-    shortest_in_byte m q None h f = tt
-    shortest_in_byte m q (Some r) h f = omega (arith, h, f.within)
-
-    pub shortest_whole : {m n : Seen X} {q p : List Bool} (d : ℕ) (found after : Option (ℕ × S)) → IsAt m q d n p → length q < d + 5 → NoneBelow m.entries q d → MatchOption found (NoneBelow n.entries p 5) (λ r. (r.0 < 5) × IsShortest n.entries p r.0 (v r.1)) → MatchOption found (after ≡ None) (λ r. after ≡ Some (d + r.0, r.1))
-        → MatchOption after (NoBeginning m.entries q) (λ r. IsShortest m.entries q r.0 (v r.1))
-    shortest_whole {m} {n} {q} {p} d None after a h f g e = subst (λ o. MatchOption o (NoBeginning m.entries q) (λ r. IsShortest m.entries q r.0 (v r.1))) (sym e) (λ k l. none_deeper d 5 a f g k (omega (arith, h, l)) l)
-    shortest_whole {m} {n} {q} {p} d (Some r) after a h f g e = subst (λ o. MatchOption o (NoBeginning m.entries q) (λ r. IsShortest m.entries q r.0 (v r.1))) (sym e) (shortest_deeper d r.0 a f g.1)

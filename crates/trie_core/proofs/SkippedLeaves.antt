@@ -18,7 +18,8 @@ use Rattle.trie_core.proofs.Marks.{set-short}
 use Rattle.trie_core.proofs.Numbers.{number_bound, number-take, child_string-child_of}
 use Rattle.trie_core.proofs.Seen.{value_at}
 use Rattle.trie_core.proofs.Searches.{no_child_get}
-use Rattle.trie_core.proofs.Leaves.{IsLeaf, leaf_below, leaf_ends, no_child_inside, goes_on}
+use Rattle.trie_core.specs.InnerSearch.{IsLeaf}
+use Rattle.trie_core.proofs.Leaves.{leaf_below, leaf_ends, no_child_inside, goes_on}
 use Rattle.trie_core.proofs.Chains.{over_seen, over_taken, over_child, over_other, chain_along, chain_step, begun_on, more}
 
 -- q begins with the way s of k levels; q ends inside it

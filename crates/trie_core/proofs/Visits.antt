@@ -147,6 +147,10 @@ module _ {X : Type 0} where
       λ i. cond (none i) 1 0 + standing_tidy m es e i
 
   -- where no spare node stands, the map alone says it
+  pub visits_some_node : (m : BitMap X) (b : BitSet) (q : List Bool) → 0 < node_visits m b q
+  unfolding node_visits
+  visits_some_node m b q = omega arith
+
   pub visits_tidy : (m : BitMap X) {b : BitSet} (q : List Bool) → b ≡ empty → node_visits m b q ≡ visit_count m q
   unfolding node_visits
   visits_tidy m q e = ap (λ n. n + 1) (standing_tidy m (fives q) e)

@@ -5,6 +5,7 @@ use Rattle.std.specs.FinMap.{get, insert}
 use Rattle.trie_core.specs.Nodes.{Seen}
 use Rattle.trie_core.specs.InnerCount.{all_nodes}
 use Rattle.trie_core.specs.Ways.{off_way}
+use Rattle.trie_core.specs.declared.insert.Insertion.{Insertion}
 
 -- n is m with the held value at q and with `made` more nodes; `out` is the old value. A new key needs `may_grow`
 pub record IsExchanged {X : Type 0} (q : List Bool) (held : Option X) (may_grow : Bool) (room : ℕ) (m : Seen X) (made : ℕ) (out : Option X) (n : Seen X) : Type 0 where
@@ -15,3 +16,7 @@ pub record IsExchanged {X : Type 0} (q : List Bool) (held : Option X) (may_grow 
   pub levels : n.levels ≤ max m.levels (length q / 5 + 1)
   pub within : made ≤ room
   pub grows : get m.entries q ≡ None → IsTrue may_grow
+
+-- n is m after the insertion at q
+abbrev pub IsStored : {X : Type 0} → List Bool → Insertion X → Insertion X → Seen X → Seen X → Type 0
+IsStored q old new m n = IsExchanged q old.held old.may_grow old.room m new.made new.held n

@@ -16,6 +16,7 @@ pub mod InnerNodes
 pub mod InnerHeights
 pub mod InnerCount
 pub mod InnerSearch
+pub mod InnerMatches
 pub mod InnerLending
 pub mod InnerExchanges
 pub mod InnerRemovals

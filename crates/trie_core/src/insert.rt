@@ -1,9 +1,12 @@
 //! Insertion: the way down to the value, and the nodes that it makes and splits.
-ghost use Rattle.std.specs.Prelude.{◌≡◌, ◌+◌, ◌*◌, ◌/◌, ◌<◌, ◌≤◌, ◌^◌, length, Some, None, IfNone, IfSome, IsTrue, ◌↔◌, false, ◌-◌, IfOk, IfErr, OnErr, OnOk, max};
+ghost use Rattle.std.specs.Prelude.{◌≡◌, ◌+◌, ◌*◌, ◌/◌, ◌<◌, ◌≤◌, ◌^◌, length, Some, None, IsTrue, ◌↔◌, false, ◌-◌, IfOk, IfErr, OnErr, OnOk, max};
 ghost use Rattle.std.specs.Option.{IsSome};
 ghost use Rattle.std.specs.FinMap as map;
-ghost use Rattle.trie_core.specs.InnerExchanges.{IsExchanged};
+ghost use Rattle.trie_core.specs.InnerExchanges.{IsStored};
 ghost use Rattle.trie_core.specs.Inside.{NothingInside};
+ghost use Rattle.trie_core.specs.InnerSearch.{HasNoChild, IsLeaf};
+ghost use Rattle.trie_core.specs.InnerPaths.{IsAligned};
+ghost use Rattle.trie_core.specs.Prefixes.{prefix_bits};
 ghost use Rattle.trie_core.specs.InnerChains.{chain, skipped, Starts};
 ghost use Rattle.trie_core.specs.InnerCount.{all_nodes};
 ghost use Rattle.trie_core.specs.Ways.{off_way};
@@ -14,6 +17,21 @@ use crate::slots::{low_bits, put_child, put_value, slot};
 use crate::tables::bit;
 use shape::Shape;
 use std::mem;
+
+/// An insertion on its way down, and then its result. Only a pointer to it goes from level to level.
+#[derive(Drop)]
+pub(crate) struct Insertion<T> {
+    /// The value to store, and then the old value.
+    held: Option<T>,
+    /// Whether a new entry may be stored.
+    may_grow: bool,
+    /// The most new nodes.
+    room: usize,
+    /// The number of new nodes.
+    made: usize,
+    /// Whether the path is a leaf, as `Node::is_leaf` returns it.
+    is_leaf: bool,
+}
 
 impl<T: Drop> Node<T> {
     /// Stores the value. Returns the old value, the number of new nodes, and whether the path is a leaf, as `is_leaf` returns it.
@@ -43,14 +61,27 @@ impl<T: Drop> Node<T> {
         ensures absent { OnErr result (map.get self.old.entries path ≡ None) }
         ensures value_returned { IfErr result (λ v. v ≡ value) }
     {
-        let mut held = Some(value);
-        let mut is_leaf = false;
-        match self.exchange(path, &mut held, &mut is_leaf, may_grow, room) {
-            Some(made) => Ok((held, made, is_leaf)),
-            None => match held {
-                Some(value) => Err(value),
-                None => unreachable!(),
-            },
+        let mut insertion = Insertion {
+            held: Some(value),
+            may_grow,
+            room,
+            made: 0,
+            is_leaf: false,
+        };
+        let (bits, len) = path.parts();
+        let is_stored = self.exchange(bits, len, &mut insertion);
+        let Insertion {
+            held,
+            made,
+            is_leaf,
+            ..
+        } = insertion;
+        if is_stored {
+            return Ok((held, made, is_leaf));
+        }
+        match held {
+            Some(value) => Err(value),
+            None => unreachable!(),
         }
     }
 }
@@ -118,114 +149,193 @@ fn split<T: Drop>(
     Ok((skip >> (5 * (below + 1)), branch))
 }
 
+/// Splits a node whose skipped levels the path leaves, so that the path begins with the levels that are left. Contracts see no change.
+/// Returns whether it is split; if not, the allocation failed.
+#[inline(never)]
+fn part<T: Drop>(
+    skip: &mut u32,
+    levels: &mut u8,
+    branch: &mut Branch<T>,
+    bits: u128,
+    len: u8,
+) -> bool
+    requires levels { levels.old ≤ 5 }
+    requires skip { skip.old < 2 ^ (5 * levels.old) }
+    requires path { IsAligned bits len }
+    requires leaves { Starts levels.old skip.old (prefix_bits 128 bits len) → ⊥ }
+    ensures levels { levels.new ≤ 5 }
+    ensures skip { skip.new < 2 ^ (5 * levels.new) }
+    ensures same { chain levels.new (skipped levels.new skip.new) branch.new ≡ chain levels.old (skipped levels.old skip.old) branch.old }
+    ensures starts { IsTrue result → Starts levels.new skip.new (prefix_bits 128 bits len) }
+{
+    let at = shared(&Path::of_parts(bits, len), *skip, *levels);
+    let alloc = branch.allocator();
+    let whole = mem::replace(branch, Branch::new(alloc));
+    match split(*skip, *levels, whole, at) {
+        Err(whole) => {
+            *branch = whole;
+            false
+        }
+        Ok((high, upper)) => {
+            *branch = upper;
+            *skip = high;
+            *levels = at;
+            true
+        }
+    }
+}
+
+/// Returns whether the path begins with the skipped levels of the node, which is split for this if it may grow.
+#[inline]
+fn leads<T: Drop>(
+    skip: &mut u32,
+    levels: &mut u8,
+    branch: &mut Branch<T>,
+    path: &Path,
+    may_grow: bool,
+) -> bool
+    requires levels { levels.old ≤ 5 }
+    requires skip { skip.old < 2 ^ (5 * levels.old) }
+    ensures levels { levels.new ≤ 5 }
+    ensures skip { skip.new < 2 ^ (5 * levels.new) }
+    ensures same { chain levels.new (skipped levels.new skip.new) branch.new ≡ chain levels.old (skipped levels.old skip.old) branch.old }
+    ensures starts { IsTrue result → Starts levels.new skip.new path.now }
+    ensures leaves { result ≡ false → Starts levels.old skip.old path.now → ⊥ }
+{
+    if path.starts(*skip, *levels) {
+        return true;
+    }
+    if !may_grow {
+        return false;
+    }
+    let (bits, len) = path.parts();
+    part(skip, levels, branch, bits, len)
+}
+
 impl<T: Drop> Node<T> {
-    /// Exchanges the value in `held` with the value at the path, if there is one. Returns the number of new nodes, or `None` if the value
-    /// can't be stored; then nothing changes. Sets `is_leaf` as `insert` returns it.
+    /// Exchanges the held value with the value at the path of these bits, if there is one. Returns whether it is stored; if not, nothing
+    /// changes.
     ///
-    /// The value stays in `held` on the way down, so each level passes a pointer instead of moving the value.
+    /// The compiler makes a loop of this recursion. So the path is two numbers, and functions with variables in memory are not inlined.
     #[cycle(store)]
-    pub(crate) fn exchange(
-        &mut self,
-        path: Path,
-        held: &mut Option<T>,
-        is_leaf: &mut bool,
-        may_grow: bool,
-        room: usize,
-    ) -> Option<usize>
-        requires { IsSome held.old }
-        ensures stored { IfSome result (λ made. IsExchanged path held.old may_grow room self.old made held.new self.new) }
-        ensures leaf { IfSome result (λ made. IsTrue is_leaf.new ↔ (NothingInside self.new.entries path × NothingInside self.new.spares path)) }
-        ensures unchanged { IfNone result (self.new ≡ self.old) }
-        ensures absent { IfNone result (map.get self.old.entries path ≡ None) }
-        ensures held { IfNone result (held.new ≡ held.old) }
+    pub(crate) fn exchange(&mut self, bits: u128, len: u8, insertion: &mut Insertion<T>) -> bool
+        requires path { IsAligned bits len }
+        requires held { IsSome insertion.old.held }
+        ensures stored { IsTrue result → IsStored (prefix_bits 128 bits len) insertion.old insertion.new self.old self.new }
+        ensures leaf { IsTrue result → IsTrue insertion.new.is_leaf ↔ IsLeaf self.new (prefix_bits 128 bits len) }
+        ensures unchanged { result ≡ false → self.new ≡ self.old }
+        ensures absent { result ≡ false → map.get self.old.entries (prefix_bits 128 bits len) ≡ None }
+        ensures held { result ≡ false → insertion.new.held ≡ insertion.old.held }
     {
-        if path.starts(self.skip, self.levels) {
-            let branch = &mut self.branch;
-            return branch.store(path.past(self.levels), held, is_leaf, may_grow, room);
+        let path = Path::of_parts(bits, len);
+        let may_grow = insertion.may_grow;
+        if !leads(
+            &mut self.skip,
+            &mut self.levels,
+            &mut self.branch,
+            &path,
+            may_grow,
+        ) {
+            return false;
         }
-        if !may_grow {
-            return None;
-        }
-        let at = shared(&path, self.skip, self.levels);
-        let alloc = self.branch.allocator();
-        let branch = mem::replace(&mut self.branch, Branch::new(alloc));
-        match split(self.skip, self.levels, branch, at) {
-            Err(branch) => {
-                self.branch = branch;
-                None
-            }
-            Ok((skip, branch)) => {
-                self.branch = branch;
-                self.skip = skip;
-                self.levels = at;
-                let branch = &mut self.branch;
-                branch.store(path.past(at), held, is_leaf, may_grow, room)
-            }
-        }
+        let branch = &mut self.branch;
+        branch.store(path.past(self.levels), insertion)
     }
 }
 
 impl<T: Drop> Branch<T> {
     /// `exchange` in a branch.
     #[cycle(store)]
-    fn store(
-        &mut self,
-        path: Path,
-        held: &mut Option<T>,
-        is_leaf: &mut bool,
-        may_grow: bool,
-        room: usize,
-    ) -> Option<usize>
-        requires { IsSome held.old }
-        ensures stored { IfSome result (λ made. IsExchanged path held.old may_grow room self.old made held.new self.new) }
-        ensures leaf { IfSome result (λ made. IsTrue is_leaf.new ↔ (NothingInside self.new.entries path × NothingInside self.new.spares path)) }
-        ensures unchanged { IfNone result (self.new ≡ self.old) }
-        ensures absent { IfNone result (map.get self.old.entries path ≡ None) }
-        ensures held { IfNone result (held.new ≡ held.old) }
+    #[inline(always)]
+    fn store(&mut self, path: Path, insertion: &mut Insertion<T>) -> bool
+        requires held { IsSome insertion.old.held }
+        ensures stored { IsTrue result → IsStored path insertion.old insertion.new self.old self.new }
+        ensures leaf { IsTrue result → IsTrue insertion.new.is_leaf ↔ IsLeaf self.new path }
+        ensures unchanged { result ≡ false → self.new ≡ self.old }
+        ensures absent { result ≡ false → map.get self.old.entries path ≡ None }
+        ensures held { result ≡ false → insertion.new.held ≡ insertion.old.held }
     {
         if path.is_short() {
-            return self.store_here(path, held, is_leaf, may_grow);
+            let (bits, len) = path.parts();
+            return self.store_here(bits, len, insertion);
         }
-        let number = path.five();
-        if let Some(at) = slot(self.child_bits, number) {
+        if let Some(at) = slot(self.child_bits, path.five()) {
             let child = self.body.child_mut(at);
-            return child.exchange(path.rest(), held, is_leaf, may_grow, room);
+            let (bits, len) = path.rest().parts();
+            return child.exchange(bits, len, insertion);
         }
+        let (bits, len) = path.parts();
+        self.store_below(bits, len, insertion)
+    }
+
+    /// `store` in a new child.
+    #[cycle(store)]
+    #[inline(never)]
+    fn store_below(&mut self, bits: u128, len: u8, insertion: &mut Insertion<T>) -> bool
+        requires path { IsAligned bits len }
+        requires long { 5 ≤ len }
+        requires free { HasNoChild (prefix_bits 128 bits len) self.old }
+        requires held { IsSome insertion.old.held }
+        ensures stored { IsTrue result → IsStored (prefix_bits 128 bits len) insertion.old insertion.new self.old self.new }
+        ensures leaf { IsTrue result → IsTrue insertion.new.is_leaf ↔ IsLeaf self.new (prefix_bits 128 bits len) }
+        ensures unchanged { result ≡ false → self.new ≡ self.old }
+        ensures absent { result ≡ false → map.get self.old.entries (prefix_bits 128 bits len) ≡ None }
+        ensures held { result ≡ false → insertion.new.held ≡ insertion.old.held }
+    {
+        let path = Path::of_parts(bits, len);
+        let number = path.five();
+        let None = slot(self.child_bits, number) else {
+            unreachable!()
+        };
         let rest = path.rest();
         let levels = skippable(&rest);
-        if !may_grow || room <= usize::from(levels) || self.body.reserve_child(1).is_err() {
-            return None;
+        let more = usize::from(levels) + 1;
+        if !insertion.may_grow || insertion.room < more || self.body.reserve_child(1).is_err() {
+            return false;
         }
         let mut branch = Branch::new(self.body.allocator());
-        let less = room - usize::from(levels) - 1;
-        let made = branch.store(rest.past(levels), held, is_leaf, true, less)?;
+        insertion.room -= more;
+        if !branch.fill(rest.past(levels), insertion) {
+            return false;
+        }
+        insertion.made += more;
         let child = Node {
             skip: rest.head(levels),
             levels,
             branch,
         };
         put_child(&mut self.child_bits, &mut self.body, number, child);
-        Some(made + usize::from(levels) + 1)
+        true
+    }
+
+    /// `store` as a function of its own.
+    #[cycle(store)]
+    #[inline(never)]
+    fn fill(&mut self, path: Path, insertion: &mut Insertion<T>) -> bool
+        requires held { IsSome insertion.old.held }
+        ensures stored { IsTrue result → IsStored path insertion.old insertion.new self.old self.new }
+        ensures leaf { IsTrue result → IsTrue insertion.new.is_leaf ↔ IsLeaf self.new path }
+        ensures unchanged { result ≡ false → self.new ≡ self.old }
+        ensures absent { result ≡ false → map.get self.old.entries path ≡ None }
+        ensures held { result ≡ false → insertion.new.held ≡ insertion.old.held }
+    {
+        self.store(path, insertion)
     }
 
     /// `store` at a string of fewer than five bits.
     #[inline(never)]
-    fn store_here(
-        &mut self,
-        path: Path,
-        held: &mut Option<T>,
-        is_leaf: &mut bool,
-        may_grow: bool,
-    ) -> Option<usize>
-        requires short { length path < 5 }
-        requires held { IsSome held.old }
-        ensures stored { IfSome result (λ made. IsExchanged path held.old may_grow 0 self.old made held.new self.new) }
-        ensures leaf { IfSome result (λ made. IsTrue is_leaf.new ↔ (NothingInside self.new.entries path × NothingInside self.new.spares path)) }
-        ensures unchanged { IfNone result (self.new ≡ self.old) }
-        ensures absent { IfNone result (map.get self.old.entries path ≡ None) }
-        ensures held { IfNone result (held.new ≡ held.old) }
+    fn store_here(&mut self, bits: u128, len: u8, insertion: &mut Insertion<T>) -> bool
+        requires path { IsAligned bits len }
+        requires short { len < 5 }
+        requires held { IsSome insertion.old.held }
+        ensures stored { IsTrue result → IsStored (prefix_bits 128 bits len) insertion.old insertion.new self.old self.new }
+        ensures leaf { IsTrue result → IsTrue insertion.new.is_leaf ↔ IsLeaf self.new (prefix_bits 128 bits len) }
+        ensures unchanged { result ≡ false → self.new ≡ self.old }
+        ensures absent { result ≡ false → map.get self.old.entries (prefix_bits 128 bits len) ≡ None }
+        ensures held { result ≡ false → insertion.new.held ≡ insertion.old.held }
     {
-        let Some(value) = held.take() else {
+        let path = Path::of_parts(bits, len);
+        let Some(value) = insertion.held.take() else {
             unreachable!()
         };
         match put_value(
@@ -233,16 +343,17 @@ impl<T: Drop> Branch<T> {
             &mut self.body,
             path.place(),
             value,
-            may_grow,
+            insertion.may_grow,
         ) {
             Ok(old) => {
-                *held = old;
-                *is_leaf = self.is_leaf_here(&path);
-                Some(0)
+                insertion.held = old;
+                insertion.made = 0;
+                insertion.is_leaf = self.is_leaf_here(&path);
+                true
             }
             Err(value) => {
-                *held = Some(value);
-                None
+                insertion.held = Some(value);
+                false
             }
         }
     }

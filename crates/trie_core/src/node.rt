@@ -1,10 +1,13 @@
 //! A node of the trie: at most five skipped levels of five bits each, and then a branch. A branch covers five levels of bits. It has the
 //! values at strings of fewer than five bits and the children at five bits.
-ghost use Rattle.std.specs.Prelude.{◌≡◌, ◌+◌, ◌*◌, ◌/◌, ◌<◌, ◌≤◌, ◌^◌, length, Some, None, IsTrue, ◌↔◌, MatchOption, false, ◌-◌};
+ghost use Rattle.std.specs.Prelude.{ℕ, ◌≡◌, ◌+◌, ◌*◌, ◌/◌, ◌<◌, ◌≤◌, ◌^◌, length, Some, None, IsTrue, ◌↔◌, MatchOption, false, ◌-◌};
 ghost use Rattle.std.specs.Option.{option_copied};
 ghost use Rattle.std.specs.FinMap as map;
 ghost use Rattle.trie_core.specs.InnerNodes.{HasSlots};
-ghost use Rattle.trie_core.specs.InnerSearch.{IsChild, HasNoChild, NoneBelow, IsLongestBelow};
+ghost use Rattle.std.specs.Option.{IsSome};
+ghost use Rattle.trie_core.specs.InnerPlaces.{place_string, IsLastPlace};
+ghost use Rattle.trie_core.specs.InnerSearch.{IsChild, HasNoChild, NoneBelow, IsLongestAt};
+ghost use Rattle.trie_core.specs.InnerMatches.{IsMatch};
 ghost use Rattle.trie_core.specs.Inside.{NothingInside};
 ghost use Rattle.trie_core.specs.InnerWithdrawals.{IsBare, IsFull};
 ghost use Rattle.trie_core.specs.Search.{NoBeginning, IsLongest, IsShortest};
@@ -14,7 +17,7 @@ ghost use Rattle.trie_core.specs.Count.{visit_count, node_visits};
 
 use crate::insert::shared;
 use crate::path::Path;
-use crate::slots::{first_place, get_at, last_place, taken_below, value_at};
+use crate::slots::{first_place, get_at, last_place, slot, taken_below, value_at};
 use crate::tables::{place_length, places_between};
 use shape::Shape;
 use std::alloc::Global;
@@ -84,32 +87,50 @@ impl<T> Model for Branch<T> {
     ghost size_decreases = { λ a h. Prim.omega (arith, body_falls a.body) };
 }
 
-/// The match found at a depth, or else the best match so far. Its length is a word, because a word is faster than a byte from level
-/// to level.
-#[inline]
-fn deeper<'a, T>(
-    best: Option<(usize, &'a T)>,
-    depth: u8,
-    found: Option<(u8, &'a T)>,
-) -> Option<(usize, &'a T)>
-    requires { MatchOption found (Unit {0}) (λ r. depth + r.0 < 256) }
-    ensures { MatchOption found.entry (result ≡ best.entry) (λ r. result ≡ Some (depth + r.0, r.1)) }
-{
-    match found {
-        None => best,
-        Some((len, value)) => Some((usize::from(depth + len), value)),
-    }
+/// The best match of a search so far. The value is read only once, at the end of the search.
+#[derive(Drop)]
+pub(crate) struct Best<'a, T> {
+    /// The branch with the match.
+    branch: &'a Branch<T>,
+    /// The places of its keys that are prefixes of the path. The last is the match, and zero means that there is none.
+    found: u32,
+    /// The number of bits of the path from this branch on.
+    left: u32,
 }
 
-/// The same match with its length as a byte.
-#[inline]
-fn in_byte<'a, T>(best: Option<(usize, &'a T)>) -> Option<(u8, &'a T)>
-    requires { MatchOption best (Unit {0}) (λ r. r.0 < 256) }
-    ensures { result ≡ best.entry }
-{
-    match best {
-        None => None,
-        Some((len, value)) => Some((len as u8, value)),
+impl<'a, T> Best<'a, T> {
+    /// Returns the best match if there are these keys in the next branch.
+    #[inline]
+    fn or_better(self, branch: &'a Branch<T>, found: u32, left: u32) -> Best<'a, T>
+        ensures same { found ≡ 0 → result ≡ self.entry }
+        ensures better { 0 < found → (result.branch.now ≡ branch.now) × (result.found ≡ found) × (result.left ≡ left) }
+    {
+        if found == 0 {
+            return self;
+        }
+        Best {
+            branch,
+            found,
+            left,
+        }
+    }
+
+    /// Returns the length of the match with its value, for a path of `len` bits.
+    #[inline]
+    fn into_match(self, len: u8) -> Option<(u8, &'a T)>
+        requires within { (self.left ≤ len) × (len ≤ 128) }
+        requires stored { (n : ℕ) → IsLastPlace self.found n → (n < 31) × IsSome (map.get self.branch.now.entries (place_string n)) }
+        ensures { MatchOption result (self.entry.found ≡ 0) (λ r. IsMatch self.entry len r.0 r.1.now) }
+    {
+        if self.found == 0 {
+            return None;
+        }
+        let place = last_place(self.found);
+        let branch = self.branch;
+        Some((
+            (u32::from(len) - self.left) as u8 + place_length(place),
+            branch.value_of(place),
+        ))
     }
 }
 
@@ -127,18 +148,26 @@ impl<T> Branch<T> {
         self.body.allocator()
     }
 
-    /// Returns the longest key of fewer than five bits that is a prefix of the path, with its value.
+    /// Returns the places of the keys of fewer than five bits that are prefixes of the path.
     #[inline]
-    fn longest_here(&self, path: &Path) -> Option<(u8, &T)>
-        ensures { MatchOption result (NoneBelow self.now.entries path.now 5) (λ r. IsLongestBelow self.now.entries path.now 5 r.0 r.1.now) }
+    fn keys_on(&self, path: &Path) -> u32
+        ensures none { result ≡ 0 → NoneBelow self.now.entries path.now 5 }
+        ensures last { (n : ℕ) → IsLastPlace result n → IsLongestAt self.now.entries path.now n }
     {
-        let found = self.value_bits & path.beginnings();
-        if found == 0 {
-            return None;
-        }
-        let place = last_place(found);
-        let at = taken_below(self.value_bits, place);
-        Some((place_length(place), self.body.value(at)))
+        self.value_bits & path.beginnings()
+    }
+
+    /// Returns the value at the place of a key.
+    #[inline]
+    fn value_of(&self, place: u8) -> &T
+        requires below { place < 31 }
+        requires stored { IsSome (map.get self.now.entries (place_string place)) }
+        ensures { map.get self.now.entries (place_string place) ≡ Some result.now }
+    {
+        let Some(at) = slot(self.value_bits, place) else {
+            unreachable!()
+        };
+        self.body.value(at)
     }
 
     /// Returns the shortest key of fewer than five bits that is a prefix of the path, with its value.
@@ -213,26 +242,28 @@ impl<T> Node<T> {
         requires { length path ≤ 128 }
         ensures { MatchOption result (NoBeginning self.now.entries path) (λ r. IsLongest self.now.entries path r.0 r.1.now) }
     {
+        let len = path.len();
+        let mut best = Best {
+            branch: &self.branch,
+            found: 0,
+            left: 0,
+        };
         let mut node = self;
         let mut path = path;
-        let mut depth = 0;
-        let mut best = None;
         'way: while path.starts(node.skip, node.levels) {
             let branch = &node.branch;
             path = path.past(node.levels);
-            depth += 5 * node.levels;
-            best = deeper(best, depth, branch.longest_here(&path));
+            best = best.or_better(branch, branch.keys_on(&path), u32::from(path.len()));
             if path.is_short() {
-                return in_byte(best);
+                return best.into_match(len);
             }
             match branch.child(&path) {
-                None => return in_byte(best),
+                None => return best.into_match(len),
                 Some(child) => node = child,
             }
             path = path.rest();
-            depth += 5;
         }
-        in_byte(best)
+        best.into_match(len)
     }
 
     /// Returns the length of the shortest key that is a prefix of the path or the path itself, with its value.
@@ -247,11 +278,11 @@ impl<T> Node<T> {
             let branch = &node.branch;
             path = path.past(node.levels);
             depth += 5 * node.levels;
-            if path.is_short() {
-                return in_byte(deeper(None, depth, branch.shortest_here(&path)));
-            }
             if let Some((len, value)) = branch.shortest_here(&path) {
                 return Some((depth + len, value));
+            }
+            if path.is_short() {
+                return None;
             }
             match branch.child(&path) {
                 None => return None,

@@ -5,6 +5,7 @@ ghost use Rattle.trie_core.specs.InnerPlaces.{place_of, child_of, IsBeginMask};
 ghost use Rattle.std.specs.Prelude.{◌*◌, IsTrue, ◌↔◌};
 ghost use Rattle.trie_core.specs.InnerChains.{Starts, EndsIn};
 ghost use Rattle.trie_core.specs.Prefixes.{prefix_bits, IsMasked};
+ghost use Rattle.trie_core.specs.InnerPaths.{IsAligned};
 
 use crate::tables::{beginnings, bit};
 use std::alloc::AllocError;
@@ -67,6 +68,26 @@ impl Path {
             bits: self.bits,
             len: self.len,
         }
+    }
+
+    /// Returns the bits at the top of 128, and their number.
+    #[inline]
+    pub(crate) fn parts(&self) -> (u128, u8)
+        ensures aligned { IsAligned result.0 result.1 }
+        ensures string { prefix_bits 128 result.0 result.1 ≡ self.now }
+        ensures len { result.1 ≡ length self.now }
+    {
+        (self.bits, self.len)
+    }
+
+    /// Makes the string of these parts.
+    #[inline]
+    pub(crate) fn of_parts(bits: u128, len: u8) -> Path
+        requires { IsAligned bits len }
+        ensures string { result ≡ prefix_bits 128 bits len }
+        ensures len { length result ≡ len }
+    {
+        Path { bits, len }
     }
 
     /// Returns the number of bits.
@@ -211,6 +232,9 @@ impl Path {
         requires within { 5 * levels ≤ length self.now }
         ensures { result ≡ drop (5 * levels) self.now }
     {
+        if levels == 0 {
+            return self.copied();
+        }
         let count = 5 * levels;
         Path {
             bits: self.bits << count,

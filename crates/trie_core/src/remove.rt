@@ -57,6 +57,10 @@ impl<T: Drop> Node<T> {
     pub(crate) fn join(&mut self)
         ensures { self.new ≡ self.old }
     {
+        let branch = &self.branch;
+        if branch.value_bits != 0 || branch.child_bits.count_ones() != 1 {
+            return;
+        }
         replace_with(self, (), Node::with_only)
     }
 

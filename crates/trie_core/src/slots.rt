@@ -90,7 +90,6 @@ pub(crate) fn value_at<C, T>(taken: u32, body: &Shape<C, T>, place: u8) -> Optio
 /// Stores the value at the place, and returns the old value.
 ///
 /// A free place is taken only if `may_grow` is true, and may need an allocation. A taken place needs none.
-#[inline(never)]
 pub(crate) fn put_value<C: Drop, T: Drop>(
     taken: &mut u32,
     body: &mut Shape<C, T>,

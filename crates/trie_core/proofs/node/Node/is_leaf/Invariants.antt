@@ -1,6 +1,6 @@
 use Rattle.std.proofs.Common.{length}
 use Rattle.std.specs.Prelude.{◌↔◌}
-use Rattle.trie_core.proofs.Leaves.{IsLeaf}
+use Rattle.trie_core.specs.InnerSearch.{IsLeaf}
 use Rattle.trie_core.proofs.node.Node.is_leaf.Given as goal
 
 abbrev pub invariant-way : goal.invariant-way

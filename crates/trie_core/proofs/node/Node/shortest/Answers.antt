@@ -1,20 +1,8 @@
-use Rattle.std.proofs.Common.{◌<◌, ◌≤◌, ◌+◌, ◌*◌, sym, subst, length, arith, MatchOption}
+use Rattle.std.proofs.Common.{◌<◌, ◌≤◌, ◌+◌, ◌*◌, length, arith}
 use Rattle.std.proofs.lemmas.Bool.Decides.{nat_tests}
-use Rattle.trie_core.specs.Search.{NoBeginning, IsShortest}
-use Rattle.trie_core.proofs.Searches.{shortest_in_byte, at_child, none_deeper, shortest_deeper, none_stop, shortest_whole, way_left}
+use Rattle.trie_core.proofs.Searches.{at_child, none_deeper, shortest_deeper, none_stop, way_left}
 use Rattle.trie_core.proofs.Skipped.{at_branch, none_on, none_off, not_true}
 use Rattle.trie_core.proofs.node.Node.shortest.Goals as goal
-
-pub in_byte-requires : goal.in_byte-requires
-in_byte-requires g c =
-    let s = c.starts.ensures.0 c.way-test.true in
-    let k = c.node.inside.levels in
-    let d = c.way.depth + 5 * k in
-    let h : length c.past-path.result < 5 = grind (arith, nat_tests) in
-    let a = at_branch c.way.depth k c.node.inside.skip c.way.invariant.place c.node.view_is s c.past-path.ensures in
-    let n = none_deeper c.way.depth (5 * k) c.way.invariant.place c.way.invariant.none (none_on k c.node.inside.skip c.way.path c.node.inside.branch c.way.node.now c.node.view_is) in
-    shortest_in_byte (λ s. s.now) c.args.self.now.entries c.args.path c.deeper.result c.requires
-    (shortest_whole (λ s. s.now) d c.shortest_here.result c.deeper.result a (omega (arith, way_left d a, h)) n c.shortest_here.ensures c.deeper.ensures)
 
 pub returns-then-is_short : goal.returns-then-is_short
 returns-then-is_short g c =
@@ -24,15 +12,13 @@ returns-then-is_short g c =
     let h : length c.past-path.result < 5 = grind (arith, nat_tests) in
     let a = at_branch c.way.depth k c.node.inside.skip c.way.invariant.place c.node.view_is s c.past-path.ensures in
     let n = none_deeper c.way.depth (5 * k) c.way.invariant.place c.way.invariant.none (none_on k c.node.inside.skip c.way.path c.node.inside.branch c.way.node.now c.node.view_is) in
-    subst (λ o. MatchOption o (NoBeginning c.args.self.now.entries c.args.path) (λ r. IsShortest c.args.self.now.entries c.args.path r.0 r.1.now)) (sym c.in_byte.ensures)
-    (shortest_whole (λ s. s.now) d c.shortest_here.result c.deeper.result a (omega (arith, way_left d a, h)) n c.shortest_here.ensures c.deeper.ensures)
+    λ j l. none_deeper d 5 a n c.in_default.ensures j (omega (arith, way_left d a, h, l)) l
 
 pub returns-in-Some : goal.returns-in-Some
 returns-in-Some g c =
     let s = c.starts.ensures.0 c.way-test.true in
     let k = c.node.inside.levels in
     let d = c.way.depth + 5 * k in
-    let h : 5 ≤ length c.past-path.result = grind (arith, nat_tests) in
     let a = at_branch c.way.depth k c.node.inside.skip c.way.invariant.place c.node.view_is s c.past-path.ensures in
     let n = none_deeper c.way.depth (5 * k) c.way.invariant.place c.way.invariant.none (none_on k c.node.inside.skip c.way.path c.node.inside.branch c.way.node.now c.node.view_is) in
     shortest_deeper d c.in-Some.len a n c.in-Some.ensures.1
