@@ -65,7 +65,9 @@ impl Sides {
     {
         match addr {
             IpAddr::V4(addr) => self.v4.last_entry(entry, u32::of_addr(addr)),
-            IpAddr::V6(addr) => self.v6.last_entry(entry, Halves::of_bits(u128::of_addr(addr))),
+            IpAddr::V6(addr) => self
+                .v6
+                .last_entry(entry, Halves::of_bits(u128::of_addr(addr))),
         }
     }
 
