@@ -57,17 +57,15 @@ impl Sides {
         }
     }
 
-    /// The entry that nodes lead the address to.
+    /// The entry that nodes lead the address to from the entry `at`.
     #[inline(always)]
-    pub(crate) fn last_entry(&self, entry: u32, addr: IpAddr) -> u32
-        requires { LeadsAddress self.now.v4 self.now.v6 (address_of addr) entry }
+    pub(crate) fn last_entry(&self, at: u32, addr: IpAddr) -> u32
+        requires { LeadsAddress self.now.v4 self.now.v6 (address_of addr) at }
         ensures { LeadsAddress self.now.v4 self.now.v6 (address_of addr) result }
     {
         match addr {
-            IpAddr::V4(addr) => self.v4.last_entry(entry, u32::of_addr(addr)),
-            IpAddr::V6(addr) => self
-                .v6
-                .last_entry(entry, Halves::of_bits(u128::of_addr(addr))),
+            IpAddr::V4(addr) => self.v4.last_entry(at, u32::of_addr(addr)),
+            IpAddr::V6(addr) => self.v6.last_entry(at, Halves::of_bits(u128::of_addr(addr))),
         }
     }
 
