@@ -8,7 +8,7 @@ class NotUnderstood(Exception):
 
 # The reasons why a function has no proof, in the checker's words.
 REASONS = [re.compile(it) for it in (
-    r"expected (?:\w+|`\S+`) in \w+/proofs/\S+",
+    r"expected (?:\w+|`\S+`) in \w+/proofs/\S+(?:, or a measure in \w+/proofs/\S+)?",
     r"(`search` did not prove .+)",
     r"it calls `.+, which (?:is|are) not proved",
     r"it passes the blocks? `.+, which (?:is|are) not proved",

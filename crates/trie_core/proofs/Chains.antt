@@ -56,18 +56,26 @@ chain_step k q r h e = ((more k q h).1, below k q r e)
 at_once : (q r : List Bool) → r ≡ drop (5 * 0) q → r ≡ q
 at_once q r e = e
 
+-- ---- one item
+
+alone : {Y : Type 0} (n : ℕ) → n < 32 → IsFree {X = Y} n 0 0 []
+alone n l = free n 0 0 [] l (omega arith) (bit_at-zero n) (sym (ap count_ones (zero_mod n) ∙ no_ones)) no_ones
+
+pub alone_counted : {Y : Type 0} (n : ℕ) (m : Y) → n < 32 → count_ones (2 ^ n) ≡ length (m ∷ [])
+alone_counted n m l = ap count_ones (sym (from_nothing n)) ∙ (alone n l).ones m
+
+pub alone_places : {Y : Type 0} (n : ℕ) (m : Y) → n < 32 → at_places 32 0 (2 ^ n) (m ∷ []) ≡ (n, m) ∷ []
+alone_places n m l = ap (λ k. at_places 32 0 k (m ∷ [])) (sym (from_nothing n)) ∙ (alone n l).stored m
+
 module _ {X : Type 0} where
   -- ---- one level
-
-  alone : (n : ℕ) → n < 32 → IsFree {X = Seen X} n 0 0 []
-  alone n l = free n 0 0 [] l (omega arith) (bit_at-zero n) (sym (ap count_ones (zero_mod n) ∙ no_ones)) no_ones
 
   pub over_slots : (n : ℕ) (m : Seen X) → n < 32 → HasSlots {X = X} 0 [] (2 ^ n) (m ∷ [])
   over_slots n m l = record {
     values_counted = no_ones;
     values_below = omega arith;
-    children_counted = ap count_ones (sym (from_nothing n)) ∙ (alone n l).ones m;
-    children_below = omega (arith, (alone n l).fits);
+    children_counted = alone_counted n m l;
+    children_below = omega (arith, (alone {Y = Seen X} n l).fits);
   }
 
   pub over_taken : (n : ℕ) (m : Seen X) → n < 32 → IsTaken n 0 (2 ^ n) (m ∷ [])
@@ -80,7 +88,7 @@ module _ {X : Type 0} where
   over_child q m h = let n = child_of q in is_child q m (over_seen n m (number_bound 5 q)) h ((over_taken n m (number_bound 5 q)).read m)
 
   pub over_places : (n : ℕ) (m : Seen X) → n < 32 → at_places 32 0 (2 ^ n) (m ∷ []) ≡ (n, m) ∷ []
-  over_places n m l = ap (λ k. at_places 32 0 k (m ∷ [])) (sym (from_nothing n)) ∙ (alone n l).stored m
+  over_places n m l = alone_places n m l
 
   not_found : (i n : ℕ) (m : Seen X) → (n ≡ i → ⊥) → find nat_cmp i ((n, m) ∷ []) ≡ None
   not_found i n m f = grind (arith, nat_tests)

@@ -2,7 +2,7 @@
 use Rattle.std.proofs.Common.{◌≡◌, ℕ, zero, suc, ◌+◌, ◌-◌, ◌*◌, ◌/◌, ◌%◌, ◌^◌, ◌<◌, ◌≤◌, Bool, true, false, List, [], ◌∷◌, ◌++◌, length, take, drop, refl, sym, ap, subst, ◌∙◌, arith, inl, inr, append_assoc, length-append}
 use Rattle.std.specs.Prelude.{Option, Some, None, IsTrue}
 use Rattle.std.specs.Option.{IsSome}
-use Rattle.std.specs.FinMap.{get, empty}
+use Rattle.std.specs.FinMap.{get, insert, empty}
 use Rattle.std.proofs.lemmas.Nat.Bits.{bit_at-zero}
 use Rattle.std.proofs.lemmas.List.{take-append-drop, length-take-le, length-take, length-drop, take_at, drop_at, take-take, drop-drop}
 use Rattle.std.proofs.Math.Seq.{take-add}
@@ -12,14 +12,19 @@ use Rattle.trie_core.specs.Nodes.{Seen}
 use Rattle.trie_core.specs.InnerSearch.{IsChild, NoneBelow}
 use Rattle.ipnet_blocks.specs.Blocks.{digits}
 use Rattle.trie_core.specs.InnerNodes.{HasSlots, node_height}
-use Rattle.trie_core.specs.InnerExchanges.{IsExchanged}
-use Rattle.trie_core.specs.InnerPlaces.{child_of}
+use Rattle.trie_core.specs.InnerExchanges.{IsExchanged, bare}
+use Rattle.trie_core.specs.InnerPlaces.{child_of, place_of}
 use Rattle.trie_core.specs.InnerChains.{over, chain, skipped, Starts}
 use Rattle.trie_core.proofs.Aligned.{digits-mod}
-use Rattle.trie_core.proofs.Numbers.{ones_bit, number_bound, take-digits, drop-digits, number-long}
+use Rattle.trie_core.proofs.Numbers.{ones_bit, double, number_bound, take-digits, drop-digits, number-long}
 use Rattle.trie_core.proofs.Seen.{viewed, seen, new_map, new_set}
+use Rattle.trie_core.proofs.Maps.{get_none}
+use Rattle.trie_core.proofs.Changes.{value_put_map, value_count}
+use Rattle.trie_core.proofs.Ways.{short_off}
+use lib.Pow.{pow_mono}
+use Rattle.std.proofs.lemmas.Nat.{pow_pos}
 use Rattle.trie_core.proofs.Exchanges.{exchanged_new}
-use Rattle.trie_core.proofs.Chains.{over_slots, over_places, chain_step, chain_exchanged, chain_along, chain_get, chain_none, chain_split}
+use Rattle.trie_core.proofs.Chains.{alone_counted, alone_places, over_slots, over_places, chain_step, chain_exchanged, chain_along, chain_get, chain_none, chain_split}
 use Rattle.trie_core.proofs.Searches.{IsAt, IsBest, none_deeper}
 
 pub not_true : {A : Type 0} (b : Bool) → (A → IsTrue b) → b ≡ false → A → ⊥
@@ -122,13 +127,39 @@ module _ {X : Type 0} where
       (subst (λ n. IsExchanged q h may_grow room (chain k q e) made out n) (sym b) (chain_exchanged k q r e d s.0 f g x))
 
   -- in new nodes on the way, of which all but the last are skipped
-  no_slots : HasSlots {X = X} {Y = Seen X} 0 [] 0 []
+  pub no_slots : HasSlots {X = X} {Y = Seen X} 0 [] 0 []
   no_slots = record { values_counted = ones_bit 0 (omega arith); values_below = omega arith; children_counted = ones_bit 0 (omega arith); children_below = omega arith }
 
-  nothing : (e : Seen X) → e.entries ≡ empty → e.spares ≡ empty → e.levels ≡ 1 → viewed {X = X} 0 [] 0 [] ≡ e
+  pub nothing : (e : Seen X) → e.entries ≡ empty → e.spares ≡ empty → e.levels ≡ 1 → viewed {X = X} 0 [] 0 [] ≡ e
   nothing e f z y =
       let l : node_height {X = X} [] + 1 ≡ e.levels = omega (arith, y) in
       λ i. record { entries = (new_map {X = X} 0 0 [] [] refl refl ∙ sym f) i; spares = (new_set {X = X} 0 [] refl ∙ sym z) i; levels = l i }
+
+  -- a value is alone in a new branch
+  pub lone_slots : (n : ℕ) (v : X) → n < 31 → HasSlots {Y = Seen X} (2 ^ n) (v ∷ []) 0 []
+  lone_slots n v l = record {
+    values_counted = alone_counted n v (omega (arith, l));
+    values_below = omega (arith, pow_mono {i = suc n} {j = 31} (omega (arith, l)), double n, pow_pos n);
+    children_counted = ones_bit 0 (omega arith);
+    children_below = omega arith;
+  }
+
+  pub lone_exchanged : {h : Option X} {may_grow : Bool} {room n : ℕ} (q : List Bool) (v : X) → length q < 5 → n ≡ place_of q → n < 31 → h ≡ Some v → IsTrue may_grow → IsExchanged q h may_grow room bare 0 None (viewed (2 ^ n) (v ∷ []) 0 [])
+  lone_exchanged {n = n} q v h k l e g =
+      let s = seen no_slots (nothing bare refl refl refl) in
+      let t = lone_slots n v l in
+      record {
+        old = sym (get_none q);
+        map = λ u i.
+            let d : Some v ≡ Some u = sym e ∙ i in
+            let f : v ≡ u = cc in
+            value_put_map q v s t h k (alone_places n v (omega (arith, l))) ∙ ap (insert empty q) f;
+        spares = s.spare ∙ short_off q s h;
+        count = omega (arith, value_count s t);
+        levels = omega (arith, s.height);
+        within = omega arith;
+        grows = λ z. g;
+      }
 
   pub chain_new : {h out : Option X} {less made : ℕ} (k : ℕ) (q r : List Bool) (e d : Seen X) → 5 * k ≤ length q → r ≡ drop (5 * k) q → IsSome h → e.entries ≡ empty → e.spares ≡ empty → e.levels ≡ 1 → IsExchanged r h true less e made out d
       → IsExchanged q h true (less + k) e (made + k) out (chain k q d)

@@ -1,7 +1,7 @@
 -- The change of a node when a held value is stored.
 use Rattle.std.specs.Prelude.{◌≡◌, ℕ, ◌+◌, ◌/◌, ◌≤◌, List, Bool, Option, None, length, max, IsTrue}
 use Rattle.std.specs.Option.{ForSome}
-use Rattle.std.specs.FinMap.{get, insert}
+use Rattle.std.specs.FinMap.{get, insert, empty}
 use Rattle.trie_core.specs.Nodes.{Seen}
 use Rattle.trie_core.specs.InnerCount.{all_nodes}
 use Rattle.trie_core.specs.Ways.{off_way}
@@ -20,3 +20,7 @@ pub record IsExchanged {X : Type 0} (q : List Bool) (held : Option X) (may_grow 
 -- n is m after the insertion at q
 abbrev pub IsStored : {X : Type 0} → List Bool → Insertion X → Insertion X → Seen X → Seen X → Type 0
 IsStored q old new m n = IsExchanged q old.held old.may_grow old.room m new.made new.held n
+
+-- a node without entries and children
+abbrev pub bare : {X : Type 0} → Seen X
+bare = record { entries = empty; spares = empty; levels = 1 }

@@ -1,8 +1,8 @@
 //! Insertion: the way down to the value, and the nodes that it makes and splits.
-ghost use Rattle.std.specs.Prelude.{◌≡◌, ◌+◌, ◌*◌, ◌/◌, ◌<◌, ◌≤◌, ◌^◌, length, Some, None, IsTrue, ◌↔◌, false, ◌-◌, IfOk, IfErr, OnErr, OnOk, max};
+ghost use Rattle.std.specs.Prelude.{◌≡◌, ◌+◌, ◌*◌, ◌/◌, ◌<◌, ◌≤◌, ◌^◌, length, Some, None, IsTrue, ◌↔◌, false, ◌-◌, IfNone, IfSome, IfOk, IfErr, OnErr, OnOk, max};
 ghost use Rattle.std.specs.Option.{IsSome};
 ghost use Rattle.std.specs.FinMap as map;
-ghost use Rattle.trie_core.specs.InnerExchanges.{IsStored};
+ghost use Rattle.trie_core.specs.InnerExchanges.{IsStored, bare};
 ghost use Rattle.trie_core.specs.Inside.{NothingInside};
 ghost use Rattle.trie_core.specs.InnerSearch.{HasNoChild, IsLeaf};
 ghost use Rattle.trie_core.specs.InnerPaths.{IsAligned};
@@ -16,6 +16,7 @@ use crate::path::Path;
 use crate::slots::{low_bits, put_child, put_value, slot};
 use crate::tables::bit;
 use shape::Shape;
+use std::alloc::Global;
 use std::mem;
 
 /// An insertion on its way down, and then its result. Only a pointer to it goes from level to level.
@@ -269,7 +270,7 @@ impl<T: Drop> Branch<T> {
     }
 
     /// `store` in a new child.
-    #[cycle(store)]
+    #[cycle(below)]
     #[inline(never)]
     fn store_below(&mut self, bits: u128, len: u8, insertion: &mut Insertion<T>) -> bool
         requires path { IsAligned bits len }
@@ -293,11 +294,11 @@ impl<T: Drop> Branch<T> {
         if !insertion.may_grow || insertion.room < more || self.body.reserve_child(1).is_err() {
             return false;
         }
-        let mut branch = Branch::new(self.body.allocator());
         insertion.room -= more;
-        if !branch.fill(rest.past(levels), insertion) {
+        let alloc = self.body.allocator();
+        let Some(branch) = Branch::filled(alloc, rest.past(levels), insertion) else {
             return false;
-        }
+        };
         insertion.made += more;
         let child = Node {
             skip: rest.head(levels),
@@ -308,18 +309,35 @@ impl<T: Drop> Branch<T> {
         true
     }
 
-    /// `store` as a function of its own.
-    #[cycle(store)]
-    #[inline(never)]
-    fn fill(&mut self, path: Path, insertion: &mut Insertion<T>) -> bool
+    /// Makes a branch with the held value at the path, and no other.
+    #[cycle(below)]
+    #[inline]
+    fn filled(alloc: Global, path: Path, insertion: &mut Insertion<T>) -> Option<Branch<T>>
         requires held { IsSome insertion.old.held }
-        ensures stored { IsTrue result → IsStored path insertion.old insertion.new self.old self.new }
-        ensures leaf { IsTrue result → IsTrue insertion.new.is_leaf ↔ IsLeaf self.new path }
-        ensures unchanged { result ≡ false → self.new ≡ self.old }
-        ensures absent { result ≡ false → map.get self.old.entries path ≡ None }
-        ensures held { result ≡ false → insertion.new.held ≡ insertion.old.held }
+        requires grows { IsTrue insertion.old.may_grow }
+        ensures stored { IfSome result (λ d. IsStored path insertion.old insertion.new bare d) }
+        ensures leaf { IfSome result (λ d. IsTrue insertion.new.is_leaf ↔ IsLeaf d path) }
+        ensures held { IfNone result (insertion.new.held ≡ insertion.old.held) }
     {
-        self.store(path, insertion)
+        if !path.is_short() {
+            let mut branch = Branch::new(alloc);
+            let (bits, len) = path.parts();
+            if !branch.store_below(bits, len, insertion) {
+                return None;
+            }
+            return Some(branch);
+        }
+        let Some(value) = insertion.held.take() else {
+            unreachable!()
+        };
+        let branch = Branch {
+            body: Shape::One(value, alloc),
+            child_bits: 0,
+            value_bits: bit(path.place()),
+        };
+        insertion.made = 0;
+        insertion.is_leaf = branch.is_leaf_here(&path);
+        Some(branch)
     }
 
     /// `store` at a string of fewer than five bits.

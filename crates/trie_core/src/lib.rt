@@ -20,11 +20,7 @@ mod tables;
 mod walk;
 
 pub use cover::Cover;
-pub use frame::{Frame, FrameStack, LentStack, Next};
-pub use lent_frame::{LentFrame, LentNode};
 pub use lent_walk::Walk;
 pub use node::Node;
-pub use owned_frame::OwnedFrame;
 pub use owned_walk::OwnedWalk;
 pub use path::Path;
-pub use walk::FrameWalk;

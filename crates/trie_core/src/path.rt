@@ -193,7 +193,7 @@ impl Path {
             return true;
         }
         let count = 5 * levels;
-        self.len >= count && self.bits >> (128 - count) == u128::from(skip)
+        self.len >= count && (self.bits >> 96) as u32 >> (32 - count) == skip
     }
 
     /// Returns whether the string ends inside these skipped levels: it is shorter, and they begin with it.

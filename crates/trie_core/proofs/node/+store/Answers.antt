@@ -2,7 +2,7 @@ use Rattle.std.proofs.Common.{◌≡◌, ℕ, ◌+◌, ◌-◌, ◌*◌, ◌/◌
 use Rattle.std.specs.Prelude.{Option, Some, None, IsTrue, ◌↔◌}
 use Rattle.std.specs.FinMap.{get}
 use Rattle.shape.specs.Shapes.{shape_values, shape_children}
-use Rattle.trie_core.specs.InnerExchanges.{IsExchanged, IsStored}
+use Rattle.trie_core.specs.InnerExchanges.{IsExchanged, IsStored, bare}
 use Rattle.trie_core.specs.InnerChains.{chain, skipped, Starts}
 use Rattle.trie_core.specs.InnerPlaces.{child_of, IsUnset}
 use Rattle.trie_core.specs.InnerSearch.{HasNoChild, IsLeaf}
@@ -58,76 +58,11 @@ Branch::store-exchange-requires g t c κs within =
 
 -- ---- in a new child of a branch
 
-pub Branch::store-store_below-requires : goal.Branch::store-store_below-requires
-Branch::store-store_below-requires g t c =
-    let l = not_short c.args.path c.is_short.ensures c.if-is_short.false in
-    let free : HasNoChild (prefix_bits 128 c.parts-bits-2.result.0 c.parts-bits-2.result.1) c.args.self.now =
+pub Branch::store-store_below-requires-clause-free : goal.Branch::store-store_below-requires-clause-free
+Branch::store-store_below-requires-clause-free g t c =
     subst (λ q. HasNoChild q c.args.self.now) (sym c.parts-bits-2.ensures.string)
-    (has_no_child c.args.path (seen c.self.invariant c.self.view_is) l
+    (has_no_child c.args.path (seen c.self.invariant c.self.view_is) (not_short c.args.path c.is_short.ensures c.if-is_short.false)
     (sym (missing (child_of c.args.path) c.self.inside.child_bits (shape_children c.self.inside.body) (subst (λ i. IsUnset i c.self.inside.child_bits) c.five.ensures.value c.in_default.ensures))))
-    in
-    λ κs o. (omega (arith, c.parts-bits-2.ensures.len), (o, (c.parts-bits-2.ensures.aligned, (omega (arith, c.parts-bits-2.ensures.len, l), (free, c.requires.held)))))
-
-pub Branch::store_below-unreachable-requires : goal.Branch::store_below-unreachable-requires
-Branch::store_below-unreachable-requires g t c =
-    let q = c.of_parts-path.result in
-    let m = c.args.self.now in
-    let l : 5 ≤ length q = omega (arith, c.of_parts-path.ensures.len, c.requires.long) in
-    let s = seen c.self.invariant c.self.view_is in
-    let k = way q s c.five-number.ensures.value c.in_default.ensures in
-    let d = get_or (shape_children c.self.inside.body) c.in_default.field-0 m in
-    let v = child_visits (is_child q d s l (k.read m)) refl in
-    let one : node_visits m.entries m.spares q ≡ 1 = ap (node_visits m.entries m.spares) c.of_parts-path.ensures.string ∙ c.requires.free.visits in
-    omega (arith, v, one, visits_some_node d.entries d.spares (drop 5 q))
-
-pub Branch::store_below-returns-then-not-insertion-clause-absent : goal.Branch::store_below-returns-then-not-insertion-clause-absent
-Branch::store_below-returns-then-not-insertion-clause-absent g t c h = no_child_get c.requires.free
-
-pub Branch::store_below-fill-requires : goal.Branch::store_below-fill-requires
-Branch::store_below-fill-requires g t c κs within =
-    let n = ap length c.past.ensures ∙ length-drop (5 * c.skippable-levels.result) c.rest-rest.result in
-    let r = ap length c.rest-rest.ensures ∙ length-drop 5 c.of_parts-path.result in
-    (omega (arith, n, r, c.of_parts-path.ensures.len, c.requires.long), (within, c.requires.held))
-
-pub Branch::store_below-returns-then-not-fill-clause-absent : goal.Branch::store_below-returns-then-not-fill-clause-absent
-Branch::store_below-returns-then-not-fill-clause-absent g t c h = no_child_get c.requires.free
-
-pub Branch::store_below-invariant_of-self-2 : goal.Branch::store_below-invariant_of-self-2
-Branch::store_below-invariant_of-self-2 g t c = values_as (child_slots c.self.invariant c.put_child.ensures.counted (c.put_child.ensures.below 32 c.five-number.ensures.below c.self.invariant.children_below)) (c.put_child.ensures.values ∙ c.reserve_child.ensures.values)
-
-pub Branch::store_below-returns-clause-stored : goal.Branch::store_below-returns-clause-stored
-Branch::store_below-returns-clause-stored g t c h =
-    let q = c.of_parts-path.result in
-    let o = c.args.insertion.now in
-    let made = c.fill.new.insertion.made in
-    let out = c.fill.new.insertion.held in
-    let e = c.new-branch.result in
-    let l : 5 ≤ length q = omega (arith, c.of_parts-path.ensures.len, c.requires.long) in
-    let k = c.skippable-levels.result in
-    let less = o.room - (c.from-more.result + 1) in
-    let x = subst (λ b. IsExchanged c.past.result o.held b less e made out c.fill.new.self) c.if-not-insertion.false (c.if-not-fill.ensures.stored refl) in
-    let d = chain k (skipped k c.head.result) c.fill.new.self in
-    let z = made_new k c.head.result c.rest-rest.result c.past.result e c.fill.new.self c.head.ensures.starts c.past.ensures c.requires.held c.new-branch.ensures.map c.new-branch.ensures.spares c.new-branch.ensures.levels x in
-    let m : made + k + 1 ≡ made + (c.from-more.result + 1) = omega (arith, c.from-more.ensures) in
-    let v = c.put_child.ensures.values ∙ c.reserve_child.ensures.values in
-    let after = λ (vs : List g.row.T.Denot). viewed c.self.inside.value_bits vs c.put_child.new.taken (shape_children c.put_child.new.body) in
-    subst (λ p. IsExchanged p o.held o.may_grow o.room c.args.self.now (made + (c.from-more.result + 1)) out (after (shape_values c.put_child.new.body))) c.of_parts-path.ensures.string
-    (subst (λ n. IsExchanged q o.held o.may_grow o.room c.args.self.now n out (after (shape_values c.put_child.new.body))) m
-    (subst (λ vs. IsExchanged q o.held o.may_grow o.room c.args.self.now (made + k + 1) out (after vs)) (sym v)
-    (exchanged_new (shape_children c.put_child.new.body) q e d (seen c.self.invariant c.self.view_is) l c.five-number.ensures.value c.in-None.ensures
-    c.reserve_child.ensures.children c.put_child.ensures.items c.put_child.ensures.counted (c.put_child.ensures.below 32 c.five-number.ensures.below c.self.invariant.children_below)
-    c.new-branch.ensures.map c.new-branch.ensures.spares c.new-branch.ensures.levels c.rest-rest.ensures c.requires.held c.if-not-insertion.false (omega (arith, x.within, c.from-more.ensures, c.if-insertion-more.false)) z)))
-
-pub Branch::store_below-returns-clause-leaf : goal.Branch::store_below-returns-clause-leaf
-Branch::store_below-returns-clause-leaf g t c h =
-    let q = c.of_parts-path.result in
-    let l : 5 ≤ length q = omega (arith, c.of_parts-path.ensures.len, c.requires.long) in
-    let k = c.skippable-levels.result in
-    let b = c.fill.new.self in
-    let f = skipped_leaf k c.head.result c.rest-rest.result c.past.result b refl c.head.ensures.starts c.past.ensures (c.if-not-fill.ensures.leaf refl) in
-    subst (λ p. IsTrue c.fill.new.insertion.is_leaf ↔ IsLeaf (viewed c.self.inside.value_bits (shape_values c.put_child.new.body) c.put_child.new.taken (shape_children c.put_child.new.body)) p) c.of_parts-path.ensures.string
-    (leaf_new _ q (chain k (skipped k c.head.result) b) (Branch::store_below-invariant_of-self-2 g t c) l
-    c.five-number.ensures.value c.put_child.ensures.items c.rest-rest.ensures f)
 
 -- ---- in a node
 
