@@ -1,14 +1,16 @@
 -- Choices as they are stored: one in each slot, and free slots after the last choice.
 use Rattle.std.specs.Prelude.{ℕ, zero, suc, Bool, true, false, List, [], ◌∷◌, Option, Some, None}
 use Rattle.route_choices.specs.Choices.{Choice, beats, same_hop}
+use Rattle.route_choices.specs.declared.slot.Kind.{Kind}
+use Rattle.route_choices.specs.declared.slot.Kind.TheVariants.{Free, Drop as OfDrop, Number as OfNumber}
 use Rattle.route_choices.specs.declared.hop.Hop.{Hop}
 use Rattle.route_choices.specs.declared.hop.Hop.TheVariants.{Number, Drop}
 
--- the content of a slot: one flag says that the slot is free, the other that the hop is `drop`
-abbrev pub slot_in : Bool → Bool → ℕ → ℕ → Option Choice
-slot_in true d k p = None
-slot_in false true k p = Some (record { hop = Drop; pref = p })
-slot_in false false k p = Some (record { hop = Number k; pref = p })
+-- the content of a slot of a kind
+abbrev pub slot_in : Kind → ℕ → ℕ → Option Choice
+slot_in Free k p = None
+slot_in OfDrop k p = Some (record { hop = Drop; pref = p })
+slot_in OfNumber k p = Some (record { hop = Number k; pref = p })
 
 -- the choice given by a pair
 abbrev pub given : Option (Hop × ℕ) → Option Choice

@@ -12,8 +12,8 @@ use crate::slot::Slot;
 use crate::too_many::TooMany;
 use std::marker::Model;
 
-/// At most eight hops with their preferences, best first, each hop once. There is room for `CAPACITY` choices of eight bytes each. They
-/// do not allocate.
+/// At most eight hops with their preferences, best first, each hop once. There is room for `CAPACITY` choices of seven bytes each.
+/// They do not allocate.
 ///
 /// Contracts see the list of the choices.
 ///

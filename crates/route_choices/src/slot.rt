@@ -10,25 +10,33 @@ use std::marker::Model;
 /// The preference of a route that is given without one.
 pub const DEFAULT_PREFERENCE: u16 = 100;
 
-/// A slot for a hop with its preference, in eight bytes: a number, a preference and two flags.
+/// The content of a slot.
+#[derive(Drop)]
+enum Kind {
+    Number,
+    Drop,
+    Free,
+}
+
+/// A slot for a hop with its preference, in seven bytes: those of a number and of a preference, and the kind.
 ///
 /// Contracts see the choice, or `None` if the slot is free.
 #[derive(Drop)]
 pub(crate) struct Slot {
-    number: u32,
-    pref: u16,
-    is_drop: bool,
-    is_free: bool,
+    number: [u8; 4],
+    pref: [u8; 2],
+    kind: Kind,
 }
 
 impl Model for Slot {
     ghost use Rattle.std.specs.Prelude.{Option};
+    ghost use Rattle.std.specs.Int.{w16, w32, from_le_bytes};
     ghost use Rattle.route_choices.specs.Choices.{Choice};
     ghost use Rattle.route_choices.specs.InnerSlots.{slot_in};
 
     ghost Value = { Option Choice };
 
-    ghost view = { λ s. slot_in s.is_free s.is_drop s.number s.pref };
+    ghost view = { λ s. slot_in s.kind (from_le_bytes w32 s.number) (from_le_bytes w16 s.pref) };
 }
 
 impl Default for Slot {
@@ -39,10 +47,9 @@ impl Default for Slot {
     /// The default slot is free.
     fn default() -> Slot {
         Slot {
-            number: 0,
-            pref: 0,
-            is_drop: true,
-            is_free: true,
+            number: [0; 4],
+            pref: [0; 2],
+            kind: Kind::Free,
         }
     }
 }
@@ -82,15 +89,14 @@ impl Slot {
         ensures value { result ≡ Some (record { hop = hop; pref = pref }) }
         ensures in_range { IsHop hop }
     {
-        let (number, is_drop) = match hop {
-            Hop::Number(number) => (number, false),
-            Hop::Drop => (0, true),
+        let (number, kind) = match hop {
+            Hop::Number(number) => (number, Kind::Number),
+            Hop::Drop => (0, Kind::Drop),
         };
         Slot {
-            number,
-            pref,
-            is_drop,
-            is_free: false,
+            number: number.to_le_bytes(),
+            pref: pref.to_le_bytes(),
+            kind,
         }
     }
 
@@ -98,13 +104,12 @@ impl Slot {
     pub(crate) fn get(&self) -> Option<(Hop, u16)>
         ensures { self.now ≡ given result }
     {
-        if self.is_free {
-            None
-        } else if self.is_drop {
-            Some((Hop::Drop, self.pref))
-        } else {
-            Some((Hop::Number(self.number), self.pref))
-        }
+        let hop = match self.kind {
+            Kind::Number => Hop::Number(u32::from_le_bytes(self.number)),
+            Kind::Drop => Hop::Drop,
+            Kind::Free => return None,
+        };
+        Some((hop, u16::from_le_bytes(self.pref)))
     }
 
     /// Whether the slot has the hop, or is free.

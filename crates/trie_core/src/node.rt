@@ -17,7 +17,7 @@ ghost use Rattle.trie_core.specs.Count.{visit_count, node_visits};
 
 use crate::insert::shared;
 use crate::path::Path;
-use crate::slots::{first_place, get_at, last_place, slot, taken_below, value_at};
+use crate::slots::{child_at, first_place, last_place, slot, taken_below, value_at};
 use crate::tables::{place_length, places_between};
 use shape::Shape;
 use std::alloc::Global;
@@ -39,9 +39,9 @@ pub struct Node<T> {
 #[cycle(node)]
 #[derive(Drop)]
 pub struct Branch<T> {
-    pub(crate) body: Shape<Node<T>, T>,
     pub(crate) child_bits: u32,
     pub(crate) value_bits: u32,
+    pub(crate) body: Shape<Node<T>, T>,
 }
 
 impl<T> Model for Node<T> {
@@ -211,7 +211,7 @@ impl<T> Branch<T> {
         requires { 5 ≤ length path.now }
         ensures { MatchOption result (HasNoChild path.now self.now) (λ c. IsChild path.now self.now c.now) }
     {
-        get_at(self.child_bits, self.body.children(), path.five())
+        child_at(self.child_bits, &self.body, path.five())
     }
 }
 

@@ -43,16 +43,16 @@ pub(crate) fn slot(taken: u32, place: u8) -> Option<usize>
     Some(taken_below(taken, place))
 }
 
-/// The item at the place.
+/// The child at the place.
 #[inline]
-pub(crate) fn get_at<X>(taken: u32, items: &[X], place: u8) -> Option<&X>
+pub(crate) fn child_at<C, T>(taken: u32, body: &Shape<C, T>, place: u8) -> Option<&C>
     requires below { place < 32 }
-    requires counted { count_ones taken ≡ length items.now }
-    ensures { option_copied result ≡ find nat_cmp place (at_places 32 0 taken items.now) }
+    requires counted { count_ones taken ≡ length (shape_children body.now) }
+    ensures { option_copied result ≡ find nat_cmp place (at_places 32 0 taken (shape_children body.now)) }
 {
     match slot(taken, place) {
         None => None,
-        Some(at) => Some(&items[at]),
+        Some(at) => Some(body.child(at)),
     }
 }
 

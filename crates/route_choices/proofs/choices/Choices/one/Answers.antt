@@ -13,5 +13,12 @@ invariant_of-result g c =
     let are : AreChoices (new ∷ []) = search rules in
     (put ∙ ap (padded g.row.CAPACITY) (sym choices), subst AreChoices (sym choices) are)
 
+pub returns-clause-choices : goal.returns-clause-choices
+returns-clause-choices g c =
+    let new : Choice = record { hop = c.args.hop; pref = c.args.pref } in
+    ap (λ xs. filled (slice_set c.default-slots.result 0 xs)) c.new.ensures.value
+    ∙ ap filled (one_put g.row.CAPACITY c.default-slots.result new c.requires c.default-slots.ensures.long c.default-slots.ensures.at)
+    ∙ filled_padded g.row.CAPACITY (new ∷ []) (omega arith)
+
 pub returns-clause-are : goal.returns-clause-are
 returns-clause-are g c = (invariant_of-result g c).1

@@ -1,4 +1,4 @@
-use Rattle.std.proofs.Common.{◌≡◌, ◌∙◌, ap, sym, length, arith}
+use Rattle.std.proofs.Common.{◌≡◌, ◌∙◌, ap, sym, arith}
 use Rattle.std.specs.Prelude.{Some, None, MatchOption}
 use Rattle.std.specs.Option.{option_copied}
 use Rattle.std.specs.Ordering.{nat_cmp}
@@ -9,17 +9,14 @@ use Rattle.trie_core.specs.InnerSearch.{IsChild, HasNoChild}
 use Rattle.trie_core.proofs.Seen.{seen, is_child, has_no_child}
 use Rattle.trie_core.proofs.node.Branch.child.Goals as goal
 
-pub get_at-requires : goal.get_at-requires
-get_at-requires g c = record {
-  below = omega (arith, c.five.ensures.below);
-  counted = c.self.invariant.children_counted ∙ ap length (sym c.children.ensures);
-}
+pub child_at-requires : goal.child_at-requires
+child_at-requires g c = record { below = omega (arith, c.five.ensures.below); counted = c.self.invariant.children_counted }
 
 pub returns : goal.returns
 returns g c =
     let s = seen c.self.invariant c.self.view_is in
-    let e = c.get_at.ensures ∙ (λ i. find nat_cmp (c.five.ensures.value i) (at_places 32 0 c.self.inside.child_bits (c.children.ensures i))) in
-    elim c.get_at.result as (λ o. option_copied o ≡ find nat_cmp (child_of c.args.path.now) (at_places 32 0 c.self.inside.child_bits (shape_children c.self.inside.body)) → MatchOption o (HasNoChild c.args.path.now c.args.self.now) (λ n. IsChild c.args.path.now c.args.self.now n.now)) [
+    let e = c.child_at.ensures ∙ ap (λ n. find nat_cmp n (at_places 32 0 c.self.inside.child_bits (shape_children c.self.inside.body))) c.five.ensures.value in
+    elim c.child_at.result as (λ o. option_copied o ≡ find nat_cmp (child_of c.args.path.now) (at_places 32 0 c.self.inside.child_bits (shape_children c.self.inside.body)) → MatchOption o (HasNoChild c.args.path.now c.args.self.now) (λ n. IsChild c.args.path.now c.args.self.now n.now)) [
       | None ↦ λ f. has_no_child c.args.path.now s c.requires (sym f)
       | Some n ↦ λ f. is_child c.args.path.now n.now s c.requires (sym f)
     ] e
