@@ -32,8 +32,12 @@ pub fn first_cut(width: u8, start: u128, end: u128, shortest: u8) -> Cut
     requires end_fits { end < 2 ^ width }
     requires in_width { shortest ≤ width }
     requires wide { width ≤ 128 }
+
+    // The length is that of the largest block at `start` that ends by `end` and has at least the length `shortest`.
     ensures len { result.len ≡ width - first_free width (record { start = start; end = end; shortest = shortest }) }
     ensures len_fits { result.len ≤ width }
+
+    // Start and end bound the rest of the range, which may be empty, and have at most `width` bits.
     ensures limits { record { start = result.start; end = result.end; shortest = shortest } ≡ after_first width (record { start = start; end = end; shortest = shortest }) }
     ensures start_fits { result.start < 2 ^ width }
     ensures next_end_fits { result.end ≤ end }

@@ -59,10 +59,16 @@ impl<P: Prefix, T> PrefixMap<P, T> {
     where
         P: Drop,
         requires { IsTrue (P.fits prefix) }
+
+        // The entry refers to this map, which is unchanged.
         ensures same_map { (entry_map_ref result).ghost_name ≡ self.entry.ghost_name }
         ensures unchanged { entry_map result ≡ self.old }
+
+        // An occupied entry has the stored key, with zeros after its bits, and a vacant one has the prefix as it was given.
         ensures key { MatchEntry result (entry_key result ≡ P.of_bits (P.bits prefix)) (entry_key result ≡ prefix) }
         ensures bits { P.bits (entry_key result) ≡ P.bits prefix }
+
+        // The entry is occupied if the key is stored, and else vacant.
         ensures found { MatchEntry result (IsSome (get self.old.entries (P.bits prefix))) (get self.old.entries (P.bits prefix) ≡ None) }
     {
         if self.get(&prefix).is_some() {
@@ -225,8 +231,11 @@ impl<'a, P: Prefix, T> VacantEntry<'a, P, T> {
     where
         P: Drop,
         T: Drop,
+        // On success the map keeps the last value written through the reference, at first `value`; else it is unchanged.
         ensures* writes_back { sem 𝓛 (entry_lends_ok P.row T.row P.R.row (Vacant self.entry) result) }
         ensures value { IfOk result (λ x. x.now ≡ value) }
+
+        // On failure the key isn't stored, and `value` is returned; the refusal is never `Full`.
         ensures full { IfErr result (λ e. e.0 ≡ Full → no_room (entry_map (Vacant self.entry))) }
         ensures value_returned { IfErr result (λ e. e.1 ≡ value) }
         ensures absent { OnErr result (entry_value (Vacant self.entry) ≡ None) }
@@ -268,8 +277,12 @@ impl<'a, P: Prefix, T> VacantEntry<'a, P, T> {
         P: Drop,
         T: Drop,
         requires { F.pre f }
+
+        // On success the map keeps the last value written through the reference, at first the result of `f`; else it is unchanged.
         ensures* writes_back { sem 𝓛 (entry_lends_ok P.row T.row P.R.row (Vacant self.entry) result) }
         ensures value { IfOk result (λ x. F.post f x.now) }
+
+        // On failure the key isn't stored, and the result of `f` is returned; the refusal is never `Full`.
         ensures full { IfErr result (λ e. e.0 ≡ Full → no_room (entry_map (Vacant self.entry))) }
         ensures value_returned { IfErr result (λ e. F.post f e.1) }
         ensures absent { OnErr result (entry_value (Vacant self.entry) ≡ None) }
@@ -292,8 +305,11 @@ impl<'a, P: Prefix, T> VacantEntry<'a, P, T> {
     where
         P: Drop,
         T: Default + Drop,
+        // On success the map keeps the last value written through the reference, at first the default; else it is unchanged.
         ensures* writes_back { sem 𝓛 (entry_lends_ok P.row T.row P.R.row (Vacant self.entry) result) }
         ensures value { IfOk result (λ x. T.is_default x.now) }
+
+        // On failure the key isn't stored, and the default value is returned; the refusal is never `Full`.
         ensures full { IfErr result (λ e. e.0 ≡ Full → no_room (entry_map (Vacant self.entry))) }
         ensures value_returned { IfErr result (λ e. T.is_default e.1) }
         ensures absent { OnErr result (entry_value (Vacant self.entry) ≡ None) }
@@ -384,10 +400,15 @@ impl<'a, P: Prefix, T> Entry<'a, P, T> {
     where
         P: Drop,
         T: Drop,
+        // The entry refers to the same map and the same key.
         ensures same_map { (entry_map_ref self.new).ghost_name ≡ (entry_map_ref self.old).ghost_name }
         ensures same_key { entry_key self.new ≡ entry_key self.old }
+
+        // On success `value` is stored and the old value returned; no node on the path of a new key is spare any more.
         ensures old { IfOk result (λ old. old ≡ entry_value self.old) }
         ensures stored { OnOk result (IsStored (entry_map self.old) (P.bits (entry_key self.old)) value (entry_map self.new)) }
+
+        // On failure the map is unchanged, the key isn't stored, and `value` is returned; the refusal is never `Full`.
         ensures unchanged { OnErr result (entry_map self.new ≡ entry_map self.old) }
         ensures absent { OnErr result (entry_value self.old ≡ None) }
         ensures full { IfErr result (λ e. e.0 ≡ Full → no_room (entry_map self.old)) }
@@ -411,9 +432,13 @@ impl<'a, P: Prefix, T> Entry<'a, P, T> {
     /// ```
     pub fn and_modify<F: FnOnce(&mut T)>(self, f: F) -> Entry<'a, P, T>
         requires { (p : MutBor T) → entry_value self ≡ Some p.now → F.pre f p }
+
+        // The entry refers to the same map and the same key, and is occupied exactly if it was before.
         ensures same_map { (entry_map_ref result).ghost_name ≡ (entry_map_ref self.entry).ghost_name }
         ensures same_key { entry_key result ≡ entry_key self.entry }
         ensures same_kind { is_occupied result ≡ is_occupied self.entry }
+
+        // `f` changes the value if the key is stored; nothing else in the map changes.
         ensures update { ModifiesValue F.FnOnce f (entry_value self.entry) (entry_value result) }
         ensures rest { MatchOption (entry_value result) (entry_map result ≡ entry_map self.entry) (λ w. entry_map result ≡ with_value (entry_map self.entry) (P.bits (entry_key self.entry)) w) }
     {
@@ -448,8 +473,11 @@ impl<'a, P: Prefix, T> Entry<'a, P, T> {
     where
         P: Drop,
         T: Drop,
+        // On success the map keeps the last value written through the reference, at first the old one or `value`; else it is unchanged.
         ensures* writes_back { sem 𝓛 (entry_lends_ok P.row T.row P.R.row self.entry result) }
         ensures value { IfOk result (λ x. x.now ≡ unwrap_or (entry_value self.entry) value) }
+
+        // On failure the key isn't stored, and `value` is returned; the refusal is never `Full`.
         ensures full { IfErr result (λ e. e.0 ≡ Full → no_room (entry_map self.entry)) }
         ensures value_returned { IfErr result (λ e. e.1 ≡ value) }
         ensures absent { OnErr result (entry_value self.entry ≡ None) }
@@ -477,8 +505,12 @@ impl<'a, P: Prefix, T> Entry<'a, P, T> {
         P: Drop,
         T: Drop,
         requires { entry_value self ≡ None → F.pre f }
+
+        // On success the map keeps the last value written through the reference, at first the old one or that of `f`; else it is unchanged.
         ensures* writes_back { sem 𝓛 (entry_lends_ok P.row T.row P.R.row self.entry result) }
         ensures value { IfOk result (λ x. UnwrapsOrElse (entry_value self.entry) (F.post f) x.now) }
+
+        // On failure the key isn't stored, and the result of `f` is returned; the refusal is never `Full`.
         ensures full { IfErr result (λ e. e.0 ≡ Full → no_room (entry_map self.entry)) }
         ensures value_returned { IfErr result (λ e. F.post f e.1) }
         ensures absent { OnErr result (entry_value self.entry ≡ None) }
@@ -505,8 +537,11 @@ impl<'a, P: Prefix, T> Entry<'a, P, T> {
     where
         P: Drop,
         T: Default + Drop,
+        // On success the map keeps the last value written through the reference, at first the old one or the default; else it is unchanged.
         ensures* writes_back { sem 𝓛 (entry_lends_ok P.row T.row P.R.row self.entry result) }
         ensures value { IfOk result (λ x. UnwrapsOrElse (entry_value self.entry) T.is_default x.now) }
+
+        // On failure the key isn't stored, and the default value is returned; the refusal is never `Full`.
         ensures full { IfErr result (λ e. e.0 ≡ Full → no_room (entry_map self.entry)) }
         ensures value_returned { IfErr result (λ e. T.is_default e.1) }
         ensures absent { OnErr result (entry_value self.entry ≡ None) }

@@ -39,10 +39,16 @@ impl<P: Prefix, T> PrefixMap<P, T> {
         requires fits { IsTrue (P.fits prefix.now) }
         requires within { len ≤ length (P.bits prefix.now) }
         requires stored { IsSome (map.get self.old.entries (take len (P.bits prefix.now))) }
+
+        // The map ends with the last value written through the reference, at the key of the first `len` bits.
         ensures* writes_back { sem 𝓛 (lends_value P.row T.row P.R.row ⟦<P as Prefix>⟧ ⟦<P::R as Key>⟧ self.entry (take len (P.bits prefix.now)) result.1) }
+
+        // The returned key has these bits, and zeros after them.
         ensures key { result.0 ≡ P.of_bits (take len (P.bits prefix.now)) }
         ensures fits { IsTrue (P.fits result.0) }
         ensures bits { P.bits result.0 ≡ take len (P.bits prefix.now) }
+
+        // The reference is to the value stored at this key.
         ensures value { map.get self.old.entries (take len (P.bits prefix.now)) ≡ Some result.1.now }
     {
         let path = first_bits(prefix, len);

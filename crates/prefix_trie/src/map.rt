@@ -359,11 +359,17 @@ impl<P: Prefix + Drop, T: Drop> PrefixMap<P, T> {
     /// ```
     pub fn insert(&mut self, prefix: P, value: T) -> Result<Option<T>, (Refused, T)>
         requires { IsTrue (P.fits prefix) }
+
+        // On success `value` is stored, and the old value is returned.
         ensures old { IfOk result (λ old. old ≡ map.get self.old.entries (P.bits prefix)) }
         ensures map { OnOk result (self.new.entries ≡ map.insert self.old.entries (P.bits prefix) value) }
+
+        // On success no node on the path of the key is spare any more; other spare nodes stay, and a tidy map stays tidy.
         ensures spares { OnOk result (self.new.spares ≡ off_way self.old.spares (P.bits prefix)) }
         ensures kept { OnOk result (IsSome (map.get self.old.entries (P.bits prefix)) → self.new.spares ≡ self.old.spares) }
         ensures tidy { OnOk result (self.old.spares ≡ map.empty → self.new.spares ≡ map.empty) }
+
+        // On failure the map is unchanged, the key isn't stored, and `value` is returned; the refusal is never `Full`.
         ensures unchanged { OnErr result (self.new ≡ self.old) }
         ensures absent { OnErr result (map.get self.old.entries (P.bits prefix) ≡ None) }
         ensures full { IfErr result (λ e. e.0 ≡ Full → no_room self.old) }
@@ -382,12 +388,18 @@ impl<P: Prefix + Drop, T: Drop> PrefixMap<P, T> {
     /// - `Memory`: as in `insert`.
     pub fn insert_is_leaf(&mut self, prefix: P, value: T) -> Result<(Option<T>, bool), (Refused, T)>
         requires { IsTrue (P.fits prefix) }
+
+        // On success `value` is stored; the old value is returned, and whether no key or spare node is strictly inside the prefix.
         ensures old { IfOk result (λ r. r.0 ≡ map.get self.old.entries (P.bits prefix)) }
         ensures leaf { IfOk result (λ r. IsTrue r.1 ↔ (NothingInside self.new.entries (P.bits prefix) × NothingInside self.new.spares (P.bits prefix))) }
         ensures map { OnOk result (self.new.entries ≡ map.insert self.old.entries (P.bits prefix) value) }
+
+        // On success no node on the path of the key is spare any more; other spare nodes stay, and a tidy map stays tidy.
         ensures spares { OnOk result (self.new.spares ≡ off_way self.old.spares (P.bits prefix)) }
         ensures kept { OnOk result (IsSome (map.get self.old.entries (P.bits prefix)) → self.new.spares ≡ self.old.spares) }
         ensures tidy { OnOk result (self.old.spares ≡ map.empty → self.new.spares ≡ map.empty) }
+
+        // On failure the map is unchanged, the key isn't stored, and `value` is returned; the refusal is never `Full`.
         ensures unchanged { OnErr result (self.new ≡ self.old) }
         ensures absent { OnErr result (map.get self.old.entries (P.bits prefix) ≡ None) }
         ensures full { IfErr result (λ e. e.0 ≡ Full → no_room self.old) }
@@ -419,10 +431,16 @@ impl<P: Prefix + Drop, T: Drop> PrefixMap<P, T> {
     /// ```
     pub fn remove(&mut self, prefix: &P) -> Option<T>
         requires { IsTrue (P.fits prefix.now) }
+
+        // The entry is removed, and its value is returned.
         ensures value { result ≡ map.get self.old.entries (P.bits prefix.now) }
         ensures map { self.new.entries ≡ map.remove self.old.entries (P.bits prefix.now) }
+
+        // Nodes on the path of the key that lead nowhere are removed, and no other spare nodes; a tidy map stays tidy.
         ensures spares { IsPruned (P.bits prefix.now) self.old.spares self.new.entries self.new.spares }
         ensures tidy { self.old.spares ≡ map.empty → self.new.spares ≡ map.empty }
+
+        // The map never has more nodes than before.
         ensures count { nodes self.new.entries + map.len self.new.spares ≤ nodes self.old.entries + map.len self.old.spares }
     {
         let (value, gone) = self.root.remove(path_of(prefix));

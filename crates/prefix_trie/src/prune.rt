@@ -38,9 +38,15 @@ impl<P: Prefix + Drop, T: Drop> PrefixMap<P, T> {
     /// ```
     pub fn remove_children(&mut self, prefix: &P)
         requires { IsTrue (P.fits prefix.now) }
+
+        // All entries inside the prefix are removed, its own included.
         ensures map { self.new.entries ≡ outside self.old.entries (P.bits prefix.now) }
+
+        // Nodes inside the prefix are removed, and nodes on its path that then lead nowhere; a tidy map stays tidy.
         ensures spares { IsCut (P.bits prefix.now) self.old.spares self.new.entries self.new.spares }
         ensures tidy { self.old.spares ≡ map.empty → self.new.spares ≡ map.empty }
+
+        // A prefix of length 0 leaves no spare node, and no prefix leaves more nodes than before.
         ensures cleared { length (P.bits prefix.now) ≡ 0 → self.new.spares ≡ map.empty }
         ensures count { nodes self.new.entries + map.len self.new.spares ≤ nodes self.old.entries + map.len self.old.spares }
     {

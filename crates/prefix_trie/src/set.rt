@@ -329,10 +329,16 @@ impl<P: Prefix + Drop> PrefixSet<P> {
     /// ```
     pub fn insert(&mut self, prefix: P) -> Result<bool, Refused>
         requires { IsTrue (P.fits prefix) }
+
+        // On success the prefix is a member, and the result says whether it is new.
         ensures new { IfOk result (λ new. new ≡ not (fin.contains_key self.old.entries (P.bits prefix))) }
         ensures set { OnOk result (self.new.entries ≡ fin.insert self.old.entries (P.bits prefix) tt) }
+
+        // On success no node on the path of the prefix is spare any more; other spare nodes stay, and a tidy set stays tidy.
         ensures spares { OnOk result (self.new.spares ≡ off_way self.old.spares (P.bits prefix)) }
         ensures tidy { OnOk result (self.old.spares ≡ fin.empty → self.new.spares ≡ fin.empty) }
+
+        // On failure the set is unchanged, and the prefix isn't a member; the refusal is never `Full`.
         ensures unchanged { OnErr result (self.new ≡ self.old) }
         ensures absent { OnErr result (fin.contains_key self.old.entries (P.bits prefix) ≡ false) }
         ensures full { IfErr result (λ e. e ≡ Full → no_room self.old) }
@@ -352,10 +358,16 @@ impl<P: Prefix + Drop> PrefixSet<P> {
     /// ```
     pub fn remove(&mut self, prefix: &P) -> bool
         requires { IsTrue (P.fits prefix.now) }
+
+        // The prefix is removed, and the result says whether it was a member.
         ensures member { result ≡ fin.contains_key self.old.entries (P.bits prefix.now) }
         ensures set { self.new.entries ≡ fin.remove self.old.entries (P.bits prefix.now) }
+
+        // Nodes on the path of the prefix that lead nowhere are removed, and no other spare nodes; a tidy set stays tidy.
         ensures spares { IsPruned (P.bits prefix.now) self.old.spares self.new.entries self.new.spares }
         ensures tidy { self.old.spares ≡ fin.empty → self.new.spares ≡ fin.empty }
+
+        // The set never has more nodes than before.
         ensures count { nodes self.new.entries + fin.len self.new.spares ≤ nodes self.old.entries + fin.len self.old.spares }
     {
         self.members.remove(prefix).is_some()
@@ -398,9 +410,15 @@ impl<P: Prefix + Drop> PrefixSet<P> {
     /// ```
     pub fn remove_children(&mut self, prefix: &P)
         requires { IsTrue (P.fits prefix.now) }
+
+        // All members inside the prefix are removed, itself included.
         ensures set { self.new.entries ≡ outside self.old.entries (P.bits prefix.now) }
+
+        // Nodes inside the prefix are removed, and nodes on its path that then lead nowhere; a tidy set stays tidy.
         ensures spares { IsCut (P.bits prefix.now) self.old.spares self.new.entries self.new.spares }
         ensures tidy { self.old.spares ≡ fin.empty → self.new.spares ≡ fin.empty }
+
+        // A prefix of length 0 leaves no spare node, and no prefix leaves more nodes than before.
         ensures cleared { length (P.bits prefix.now) ≡ 0 → self.new.spares ≡ fin.empty }
         ensures count { nodes self.new.entries + fin.len self.new.spares ≤ nodes self.old.entries + fin.len self.old.spares }
     {

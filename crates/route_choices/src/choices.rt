@@ -99,10 +99,15 @@ impl Choices<8> {
     /// assert_eq!(rt; choices.add(Hop::Drop, 200), Err(TooMany));
     /// ```
     pub fn add(&mut self, hop: Hop, pref: u16) -> Result<(), TooMany>
+        // On success the hop has this preference and its place among the others, of which there are fewer than eight.
         ensures choices { OnOk result (self.new ≡ choices_with self.old (record { hop = hop; pref = pref })) }
         ensures room { OnOk result (is_one_too_many self.old hop ≡ false) }
+
+        // On failure there are eight other hops, and nothing changes.
         ensures full { OnErr result (is_one_too_many self.old hop ≡ true) }
         ensures unchanged { OnErr result (self.new ≡ self.old) }
+
+        // There are at most eight choices, best first, each hop once.
         ensures are { AreChoices self.new }
     {
         self.are_choices();

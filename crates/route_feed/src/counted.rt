@@ -33,10 +33,15 @@ pub struct Counted<D> {
 impl<D> Counted<D> {
     /// Wraps the device; nothing is counted yet.
     pub fn new(device: D) -> Counted<D>
+        // The device is the given one.
         ensures device { result.device ≡ device }
+
+        // No read is counted, no fault is counted, and the device isn't failing.
         ensures reads { result.reads ≡ 0 }
         ensures faults { result.faults ≡ 0 }
         ensures failing { result.failing ≡ false }
+
+        // No bytes wait for a flush, and no flush is counted.
         ensures waiting { result.waiting ≡ false }
         ensures flushes { result.flushes ≡ 0 }
     {

@@ -204,10 +204,15 @@ impl Follower {
     /// assert_eq!(rt; least.len(), 1);
     /// ```
     pub fn least(&self) -> Result<Option<Vec<(IpNet, Hop)>>, RunError>
+        // The result is `Ok(None)` exactly after a fault of the follower.
         ensures works { IfOk result (λ found. IfNone found (self.now.failed ≡ true)) }
         ensures failed { self.now.failed ≡ true → result ≡ Ok None }
+
+        // On success the routes are a smallest table with the hops of the follower, on networks without host bits.
         ensures least { IfOk result (λ found. IfSome found (λ routes. IsLeast (hop_at (routes_of self.now.table)) (routes_for routes.items))) }
         ensures truncated { IfOk result (λ found. IfSome found (λ routes. All (λ r. IsTruncated (family r.0) (parts r.0)) routes.items)) }
+
+        // It fails only for lack of memory.
         ensures memory { IfErr result (λ e. e ≡ RunError.Memory) }
     {
         if self.failed {
@@ -251,11 +256,16 @@ impl Follower {
     /// assert_eq!(rt; follower.line(b"ok"), Err(FollowError::Failed));
     /// ```
     pub fn line(&mut self, text: &[u8]) -> Result<(), FollowError>
+        // On success the text is a reply line, which the follower has taken; there was no fault before or after.
         ensures ok { OnOk result ((line : Reply) × (reply_of text.now ≡ Some line) × TakesLine self.old self.new line) }
         ensures works { OnOk result ((self.old.failed ≡ false) × (self.new.failed ≡ false)) }
+
+        // `NotALine` means another text, `Memory` a line that may need memory, and `Failed` an earlier fault, after which nothing changes.
         ensures not_a_line { IsErrOf result FollowError.NotALine → (self.old.failed ≡ false) × (reply_of text.now ≡ None) }
         ensures memory { IsErrOf result FollowError.Memory → (self.old.failed ≡ false) × (line : Reply) × (reply_of text.now ≡ Some line) × WantsMemory self.old.pending line }
         ensures failed { IsErrOf result FollowError.Failed → (self.old.failed ≡ true) × (self.new ≡ self.old) }
+
+        // After each error the follower has failed; pending changes stay, and so does the table, except at an `ok` without memory.
         ensures stays { IsErrOf result FollowError.NotALine → (self.new.table ≡ self.old.table) × (self.new.pending ≡ self.old.pending) }
         ensures lacks { IsErrOf result FollowError.Memory → (line : Reply) × (reply_of text.now ≡ Some line) × LacksMemory self.old self.new line }
         ensures fault { OnErr result (self.new.failed ≡ true) }

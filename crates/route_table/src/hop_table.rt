@@ -78,8 +78,13 @@ impl HopTable {
     /// assert!(rt; matches!(table.get(&host), Some((_, Hop::Number(2), 100))));
     /// ```
     pub fn install(&mut self, net: IpNet, hop: Hop) -> Result<(), Refused>
+        // On success the route is stored with preference 100, in place of any other of its network.
         ensures routes { OnOk result (routes_of self.new ≡ with_route (routes_of self.old) (route_of net hop default_preference)) }
+
+        // Before and after, the stored networks ascend, each with its routes, best first.
         ensures tables { IsStoredTable self.old × IsStoredTable self.new }
+
+        // It fails only for lack of memory, at a network that isn't stored, and the table is unchanged.
         ensures memory { IfErr result (λ e. e ≡ Memory) }
         ensures unchanged { OnErr result (self.new ≡ self.old) }
         ensures absent { OnErr result (choices_at self.old (block net) ≡ []) }

@@ -42,10 +42,17 @@ impl<const CAPACITY: usize> Table<CAPACITY> {
     /// assert!(rt; matches!(table.get(&half), Some((_, Hop::Number(3), 100))));
     /// ```
     pub fn overwrite(&mut self, net: IpNet, hop: Hop) -> Result<(), Refused>
+        // On success the network has one route, with preference 100, and no other network inside it is stored.
         ensures networks { OnOk result (self.new ≡ overwritten_by self.old (block net) (record { hop = hop; pref = default_preference })) }
+
+        // Before and after, the stored networks ascend, each with its routes, best first; the network and the hop are valid.
         ensures tables { IsStoredTable self.old × IsStoredTable self.new }
         ensures change { IsBlock (block net) × IsHop hop }
+
+        // On success the addresses of the network have the new hop, and all others keep theirs.
         ensures hops { OnOk result ((x : Address) → IsAddress x → hop_at (routes_of self.new) x ≡ (if has_address (block net) x then number_of hop else hop_at (routes_of self.old) x)) }
+
+        // It fails only for lack of memory, at a network that isn't stored, and the table is unchanged.
         ensures memory { IfErr result (λ e. e ≡ Memory) }
         ensures unchanged { OnErr result (self.new ≡ self.old) }
         ensures absent { OnErr result (choices_at self.old (block net) ≡ []) }

@@ -43,10 +43,15 @@ impl RouteTable {
     /// assert_eq!(rt; own.as_slice(), [half].as_slice());
     /// ```
     pub fn own(&self, number: u32) -> Result<Vec<IpNet>, Refused>
+        // On success the networks are the maximal blocks of the addresses with this hop; no shorter list has these addresses.
         ensures maximal { IfOk result (λ v. IsMaximal (λ x. hop_at (routes_of self.now) x ≡ Some number) (map block v.items)) }
         ensures shortest { IfOk result (λ v. IsShortest (λ x. hop_at (routes_of self.now) x ≡ Some number) (map block v.items)) }
+
+        // On success they are the blocks of the flat list with this hop, without host bits.
         ensures flat { IfOk result (λ v. map block v.items ≡ blocks_of (filter (λ p. p.number == number) (flat_of (hop_at (routes_of self.now))))) }
         ensures truncated { IfOk result (λ v. All (λ n. IsTruncated (family n) (parts n)) v.items) }
+
+        // It fails only for lack of memory.
         ensures memory { IfErr result (λ e. e ≡ Memory) }
     {
         Ok(self.owned(number)?)

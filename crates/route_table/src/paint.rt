@@ -32,9 +32,16 @@ impl HopTable {
     /// assert_eq!(rt; table.get(&half), Some((wide, Hop::Number(3), 100)));
     /// ```
     pub fn paint(&mut self, net: IpNet, hop: Hop) -> Result<(), Refused>
+        // On success the network has one route, or none if it inherits the hop, and no other network inside it is stored.
         ensures routes { OnOk result (routes_of self.new ≡ painted (routes_of self.old) (route_of net hop default_preference)) }
+
+        // Before and after, the stored networks ascend, each with its routes, best first.
         ensures tables { IsStoredTable self.old × IsStoredTable self.new }
+
+        // On success the addresses of the network have the new hop, and all others keep theirs.
         ensures hops { OnOk result ((x : Address) → IsAddress x → hop_at (routes_of self.new) x ≡ (if has_address (block net) x then number_of hop else hop_at (routes_of self.old) x)) }
+
+        // It fails only for lack of memory, at a network that isn't stored, and the table is unchanged.
         ensures memory { IfErr result (λ e. e ≡ Memory) }
         ensures unchanged { OnErr result (self.new ≡ self.old) }
         ensures absent { OnErr result (choices_at self.old (block net) ≡ []) }

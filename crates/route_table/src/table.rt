@@ -107,10 +107,17 @@ impl RouteTable {
         hop: Hop,
         pref: u16,
     ) -> Result<(Option<u32>, Option<u32>), AddRefused>
+        // On success the results are the hops at the longest match of the network, before and after.
         ensures hops { IfOk result (λ r. (r.0 ≡ match_number (match_of (routes_of self.old) (block net))) × (r.1 ≡ match_number (match_of (routes_of self.new) (block net)))) }
+
+        // On success the network has the route among its others, best first; it had fewer than eight other hops.
         ensures networks { OnOk result (self.new ≡ with_choice self.old (block net) (record { hop = hop; pref = pref })) }
         ensures room { OnOk result (is_one_too_many (choices_at self.old (block net)) hop ≡ false) }
+
+        // Before and after, the stored networks ascend, each with its routes, best first.
         ensures tables { IsStoredTable self.old × IsStoredTable self.new }
+
+        // A refusal changes nothing: the network has eight other hops, or isn't stored and memory ran out.
         ensures refused { IfErr result (IsRefused (choices_at self.old (block net)) hop) }
         ensures unchanged { OnErr result (self.new ≡ self.old) }
     {

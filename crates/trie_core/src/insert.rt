@@ -50,14 +50,23 @@ impl<T: Drop> Node<T> {
         may_grow: bool,
         room: usize,
     ) -> Result<(Option<T>, usize, bool), T>
+        // On success `value` is stored, the old value is returned, and no node on the path is spare any more.
         ensures old { IfOk result (λ r. r.0 ≡ map.get self.old.entries path) }
         ensures map { OnOk result (self.new.entries ≡ map.insert self.old.entries path value) }
         ensures spares { OnOk result (self.new.spares ≡ off_way self.old.spares path) }
+
+        // On success the number of new nodes is returned; the levels are at most the old ones or those of the path.
         ensures count { IfOk result (λ r. all_nodes self.new ≡ all_nodes self.old + r.1) }
         ensures levels { OnOk result (self.new.levels ≤ max self.old.levels (length path / 5 + 1)) }
+
+        // On success the last result says whether no key or spare node is strictly inside the path.
         ensures leaf { IfOk result (λ r. IsTrue r.2 ↔ (NothingInside self.new.entries path × NothingInside self.new.spares path)) }
+
+        // On success there are at most `room` new nodes, and a new entry only if `may_grow` allows it.
         ensures within { IfOk result (λ r. r.1 ≤ room) }
         ensures grows { IfOk result (λ r. r.0 ≡ None → IsTrue may_grow) }
+
+        // On failure the node is unchanged, the path has no value, and `value` is returned.
         ensures unchanged { OnErr result (self.new ≡ self.old) }
         ensures absent { OnErr result (map.get self.old.entries path ≡ None) }
         ensures value_returned { IfErr result (λ v. v ≡ value) }

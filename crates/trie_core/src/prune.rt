@@ -133,9 +133,13 @@ impl<T: Drop> Node<T> {
     pub fn remove_children(&mut self, path: &Path) -> (usize, usize)
         requires entries { map.len self.old.entries < 2 ^ 64 }
         requires nodes { all_nodes self.old < 2 ^ 64 }
+
+        // All entries inside the path are removed; the results are the numbers of removed entries and nodes.
         ensures map { self.new.entries ≡ outside self.old.entries path.now }
         ensures entries { map.len self.new.entries + result.0 ≡ map.len self.old.entries }
         ensures count { all_nodes self.new + result.1 ≡ all_nodes self.old }
+
+        // Nodes inside the path are removed, and nodes on it that then lead nowhere; no level is added.
         ensures spares { IsCut path.now self.old.spares self.new.entries self.new.spares }
         ensures levels { self.new.levels ≤ self.old.levels }
     {
@@ -270,8 +274,11 @@ impl<T: Drop> Node<T> {
     /// Removes the entry, and keeps every node.
     #[cycle(remove_keep_tree)]
     pub fn remove_keep_tree(&mut self, path: Path) -> Option<T>
+        // The entry is removed, and its value is returned.
         ensures value { result ≡ map.get self.old.entries path }
         ensures map { self.new.entries ≡ map.remove self.old.entries path }
+
+        // All nodes stay; nodes on the path that no longer lead to an entry are spare then.
         ensures spares { IsKept path self.old.entries self.old.spares self.new.entries self.new.spares }
         ensures count { all_nodes self.new ≡ all_nodes self.old }
         ensures levels { self.new.levels ≤ self.old.levels }

@@ -19,8 +19,12 @@ impl<T: Drop> Node<T> {
     /// Returns the value and the number of nodes removed.
     pub fn remove(&mut self, path: Path) -> (Option<T>, u8)
         requires { length path ≤ 128 }
+
+        // The entry is removed, and its value is returned.
         ensures value { result.0 ≡ map.get self.old.entries path }
         ensures map { self.new.entries ≡ map.remove self.old.entries path }
+
+        // Nodes on the path that lead nowhere are removed; their number is returned, at most one for each five bits of the path.
         ensures spares { IsPruned path self.old.spares self.new.entries self.new.spares }
         ensures count { all_nodes self.new + result.1 ≡ all_nodes self.old }
         ensures levels { self.new.levels ≤ self.old.levels }
