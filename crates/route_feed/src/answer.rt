@@ -62,7 +62,7 @@ pub fn lead_line<W: Write>(
 ///
 /// # Errors
 /// Only `Write`: if `write` or `flush` fails, or if `write` writes nothing. Then only a beginning of the reply was written.
-pub fn answer<W: Write>(
+pub(crate) fn answer<W: Write>(
     table: &mut RouteTable,
     text: Option<&[u8]>,
     writer: &mut Counted<W>,
@@ -83,7 +83,7 @@ pub fn answer<W: Write>(
 ///
 /// # Errors
 /// Only `Write`: if `write` or `flush` fails, or if `write` writes nothing. Then only a beginning of the reply was written.
-pub fn answer_rest<W: Write>(rest: Rest, writer: &mut Counted<W>) -> Result<(), RunError>
+pub(crate) fn answer_rest<W: Write>(rest: Rest, writer: &mut Counted<W>) -> Result<(), RunError>
     requires { CanCount writer.old }
     ensures closes { Closes W.contents (replies_to_rest rest) writer.old writer.new result (reply_to_rest rest) }
     ensures held { IsErr result → rest ≡ Rest.Held }

@@ -15,7 +15,7 @@ use route_lines::Reply;
 use route_table::{All, Between, Flat, Governed, Operation, Routes};
 
 /// An iterator over the lines of a reply, without its closing line.
-pub trait Body: Drop {
+pub(crate) trait Body: Drop {
     /// The lines that are left.
     ghost lines: { Self → List Reply };
 
@@ -55,7 +55,7 @@ impl Body for Routes<'_> {
 
 /// The lines of the first routes, at most `limit` of them.
 #[derive(Drop)]
-pub struct PageLines<'a> {
+pub(crate) struct PageLines<'a> {
     pub routes: Routes<'a>,
     pub limit: u16,
 }
@@ -75,7 +75,7 @@ impl Body for PageLines<'_> {
 
 /// The lines of the routes of one network, which has no host bits.
 #[derive(Drop)]
-pub struct ChoiceLines<'a> {
+pub(crate) struct ChoiceLines<'a> {
     pub net: IpNet,
     pub choices: All<'a>,
 }
@@ -107,7 +107,7 @@ impl Body for &[IpNet] {
 }
 
 /// The line of a changed block, which has no host bits, with its new hop.
-pub fn change_line(net: IpNet, hop: Option<u32>) -> Reply
+pub(crate) fn change_line(net: IpNet, hop: Option<u32>) -> Reply
     ensures value { net ≡ network_at (block net) → result ≡ change_line hop (block net) }
     ensures printable { net ≡ network_at (block net) → IsPrintable result }
 {
@@ -119,7 +119,7 @@ pub fn change_line(net: IpNet, hop: Option<u32>) -> Reply
 
 /// The lines of the changed blocks, and their new hop.
 #[derive(Drop)]
-pub struct ChangeLines<'a> {
+pub(crate) struct ChangeLines<'a> {
     pub blocks: Governed<'a>,
     pub hop: Option<u32>,
 }
@@ -148,7 +148,7 @@ impl Body for Flat<'_> {
 }
 
 /// Operations on an installed table, one after another.
-pub trait Operations: Drop {
+pub(crate) trait Operations: Drop {
     /// The operations that are left.
     ghost left: { Self → List Operation };
 

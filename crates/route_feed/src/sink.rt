@@ -17,10 +17,10 @@ use std::io::{Read, Write};
 const MOST_READS: u64 = 1 << 62;
 
 /// The number of bytes that one read asks for.
-pub const PIECE: usize = 1 << 16;
+pub(crate) const PIECE: usize = 1 << 16;
 
 /// A receiver of the lines of an input, one by one, which may write while it receives.
-pub trait Sink<W: Write> {
+pub(crate) trait Sink<W: Write> {
     /// Whether it can receive a line now.
     ghost can_take: { Self → Counted W → Type 0 };
 
@@ -96,7 +96,7 @@ fn take_piece<W: Write, S: Sink<W>>(
 /// # Errors
 /// - `Read` if `read` fails, or if 2^62 calls of `read` don't reach the end. The sink has received each complete line that was read.
 /// - Any error of the sink, at the first line that it didn't accept.
-pub fn run<R: Read, W: Write, S: Sink<W>>(
+pub(crate) fn run<R: Read, W: Write, S: Sink<W>>(
     sink: &mut S,
     buf: &mut [u8],
     reader: &mut Counted<R>,

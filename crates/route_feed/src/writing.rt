@@ -18,7 +18,7 @@ use route_table::{DEFAULT_PREFERENCE, LeastRoutes};
 use std::io::Write;
 
 /// Writes the piece; if it fails, only a beginning of the piece.
-pub fn write_piece<W: Write>(writer: &mut Counted<W>, piece: &[u8]) -> Result<(), RunError>
+pub(crate) fn write_piece<W: Write>(writer: &mut Counted<W>, piece: &[u8]) -> Result<(), RunError>
     requires { CanCount writer.old }
     ensures { Writes W.contents writer.old writer.new result piece.now }
 {
@@ -48,7 +48,7 @@ fn flush<W: Write>(writer: &mut Counted<W>) -> Result<(), RunError>
 ///
 /// # Errors
 /// Only `Write`: if `write` or `flush` fails, or if `write` writes nothing. Then only a beginning of the line was written.
-pub fn close<W: Write>(writer: &mut Counted<W>, closing: Closing) -> Result<(), RunError>
+pub(crate) fn close<W: Write>(writer: &mut Counted<W>, closing: Closing) -> Result<(), RunError>
     requires { CanCount writer.old }
     ensures { Closes W.contents 1 writer.old writer.new result (reply_line (Reply.Close closing)) }
 {
@@ -60,7 +60,7 @@ pub fn close<W: Write>(writer: &mut Counted<W>, closing: Closing) -> Result<(), 
 ///
 /// # Errors
 /// Only `Write`: if `write` or `flush` fails, or if `write` writes nothing. Then only a beginning of the reply was written.
-pub fn reply<W: Write, B: Body>(writer: &mut Counted<W>, mut body: B) -> Result<(), RunError>
+pub(crate) fn reply<W: Write, B: Body>(writer: &mut Counted<W>, mut body: B) -> Result<(), RunError>
     requires counts { CanCount writer.old }
     requires body { B.can_give body }
     ensures { Closes W.contents 1 writer.old writer.new result (printed (B.lines body ++ Reply.Close Closing.Done ∷ [])) }
@@ -77,7 +77,10 @@ pub fn reply<W: Write, B: Body>(writer: &mut Counted<W>, mut body: B) -> Result<
 ///
 /// # Errors
 /// Only `Write`: if `write` or `flush` fails, or if `write` writes nothing. Then only a beginning of the lines was written.
-pub fn write_routes<W: Write>(writer: &mut Counted<W>, routes: LeastRoutes) -> Result<(), RunError>
+pub(crate) fn write_routes<W: Write>(
+    writer: &mut Counted<W>,
+    routes: LeastRoutes,
+) -> Result<(), RunError>
     requires counts { CanCount writer.old }
     requires networks { AreTruncated routes }
     ensures { Delivers W.contents writer.old writer.new result (add_lines (routes_for routes)) }
@@ -99,7 +102,7 @@ pub fn write_routes<W: Write>(writer: &mut Counted<W>, routes: LeastRoutes) -> R
 ///
 /// # Errors
 /// Only `Write`: if `write` fails or writes nothing. Then only a beginning of the lines was written.
-pub fn write_operations<W: Write, O: Operations>(
+pub(crate) fn write_operations<W: Write, O: Operations>(
     writer: &mut Counted<W>,
     mut operations: O,
 ) -> Result<(), RunError>
