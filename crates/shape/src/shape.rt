@@ -77,14 +77,11 @@ impl<C, T> Shape<C, T> {
         requires { at < length (shape_values self.now) }
         ensures { result.now ≡ slice_index_or (shape_values self.now) at result.now }
     {
-        // Few nodes have both, so the processor predicts this branch well; the other two cases need none.
-        if let Shape::Both(_, values) = self {
-            return &values[at];
-        }
         match self {
             Shape::One(value, _) => value,
             Shape::Values(values) => &values[at],
-            _ => unreachable!(),
+            Shape::Children(_) => unreachable!(),
+            Shape::Both(_, values) => &values[at],
         }
     }
 
@@ -94,12 +91,7 @@ impl<C, T> Shape<C, T> {
         requires { at < length (shape_children self.now) }
         ensures { result.now ≡ slice_index_or (shape_children self.now) at result.now }
     {
-        match self {
-            Shape::One(_, _) => unreachable!(),
-            Shape::Values(_) => unreachable!(),
-            Shape::Children(children) => &children[at],
-            Shape::Both(children, _) => &children[at],
-        }
+        &self.children()[at]
     }
 
     /// Returns the child at the index `at`, which can be changed through the result.
