@@ -16,6 +16,6 @@ use std::alloc::Global;
 pub fn looked_up(alloc: Global, table: &RouteTable, addr: IpAddr) -> Result<Option<u32>, Refused>
     ensures { IfOk result (λ hop. hop ≡ hop_at (routes_of table.now) (address_of addr)) }
 {
-    let index = HopIndex::of_table(alloc, table)?;
+    let index = HopIndex::from_table(alloc, table)?;
     Ok(index.hop(addr))
 }

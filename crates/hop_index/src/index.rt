@@ -14,7 +14,7 @@ use crate::lookups::Lookups;
 use crate::ranges::Ranges;
 use crate::stored::{Halves, Stored};
 use ipnet::IpAddr;
-use ipnet_addr::number::Number;
+use ipnet_addr::number::AddressInt;
 use prefix_trie::Refused;
 use route_table::{Flat, HopRun, HopTable, RouteTable};
 use std::alloc::{AllocError, Global};
@@ -109,11 +109,11 @@ impl HopIndex {
     /// If 10.0.0.0/8 has the hop 1 and 10.0.0.0/9 the hop 2, and `address` parses a text:
     ///
     /// ```rust
-    /// let index = HopIndex::of_table(rt.alloc(), &table).expect(&rt, "an index");
+    /// let index = HopIndex::from_table(rt.alloc(), &table).expect(&rt, "an index");
     /// assert_eq!(rt; index.hop(address(&rt, "10.1.2.3")), Some(2));
     /// assert_eq!(rt; index.hop(address(&rt, "11.0.0.1")), None);
     /// ```
-    pub fn of_table(alloc: Global, table: &RouteTable) -> Result<HopIndex, Refused>
+    pub fn from_table(alloc: Global, table: &RouteTable) -> Result<HopIndex, Refused>
         ensures hops { IfOk result (λ i. (x : Address) → IsAddress x → hop_of i x ≡ hop_at (routes_of table.now) x) }
         ensures memory { IfErr result (λ e. e ≡ Memory) }
     {
@@ -129,9 +129,9 @@ impl HopIndex {
     /// If `best` is a `HopTable`:
     ///
     /// ```rust
-    /// let index = HopIndex::of_hops(alloc, &best).expect(rt, "an index");
+    /// let index = HopIndex::from_hop_table(alloc, &best).expect(rt, "an index");
     /// ```
-    pub fn of_hops(alloc: Global, table: &HopTable) -> Result<HopIndex, Refused>
+    pub fn from_hop_table(alloc: Global, table: &HopTable) -> Result<HopIndex, Refused>
         ensures hops { IfOk result (λ i. (x : Address) → IsAddress x → hop_of i x ≡ hop_at (routes_of table.now) x) }
         ensures memory { IfErr result (λ e. e ≡ Memory) }
     {

@@ -8,11 +8,11 @@ ghost use Rattle.ipnet.specs.IpNets.{block, family, parts};
 use crate::ip_net::IpNet;
 use crate::networks::{Ipv4Net, Ipv6Net, Net};
 use crate::subnets::Subnets;
-use ipnet_addr::number::Number;
-use ipnet_blocks::aggregate::{OfFamily, Span, aggregated};
+use ipnet_addr::number::AddressInt;
+use ipnet_blocks::aggregate::{Span, Spanned, aggregated};
 use std::alloc::{AllocError, Global};
 
-impl<N: Number> OfFamily for Net<N> {
+impl<N: AddressInt> Spanned for Net<N> {
     ghost family = { N.family };
 
     ghost parts = { λ n. n };
@@ -34,7 +34,7 @@ impl<N: Number> OfFamily for Net<N> {
     }
 }
 
-impl<N: Number> Net<N> {
+impl<N: AddressInt> Net<N> {
     /// Returns the fewest networks that cover the same addresses, in ascending order and without host bits. Takes time n log n.
     ///
     /// # Errors

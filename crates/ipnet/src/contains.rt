@@ -6,7 +6,7 @@ ghost use Rattle.ipnet_blocks.specs.Networks.{block_of};
 use crate::ip_net::IpNet;
 use crate::networks::Net;
 use ipnet_addr::bits::quotient;
-use ipnet_addr::number::Number;
+use ipnet_addr::number::AddressInt;
 use ipnet_blocks::contains::is_inside;
 use std::net::IpAddr;
 
@@ -28,7 +28,7 @@ pub trait Contains<T> {
 }
 
 /// Each address of `other` is an address of `self`.
-impl<N: Number> Contains<&Net<N>> for Net<N> {
+impl<N: AddressInt> Contains<&Net<N>> for Net<N> {
     ghost contained = { λ n m. IsInside (block_of N.family m.now) (block_of N.family n) };
 
     fn contains(&self, other: &Net<N>) -> bool {
@@ -42,7 +42,7 @@ impl<N: Number> Contains<&Net<N>> for Net<N> {
     }
 }
 
-impl<N: Number> Net<N> {
+impl<N: AddressInt> Net<N> {
     // Whether the network contains the address.
     pub(crate) fn holds(&self, addr: N::Addr) -> bool
         ensures { IsTrue result ↔ HasAddress (block_of N.family self.now) (record { family = N.family; number = N.addr_number addr }) }
@@ -86,7 +86,7 @@ impl Contains<&IpAddr> for IpNet {
     }
 }
 
-impl<N: Number> Net<N> {
+impl<N: AddressInt> Net<N> {
     /// Returns whether the network contains `other`, a network or an address.
     ///
     /// # Examples

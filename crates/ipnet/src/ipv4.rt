@@ -14,7 +14,7 @@ ghost use Rattle.ipnet.specs.NetworkText.{ReadsIpv4, ipv4_net_text};
 
 use crate::contains::Contains;
 use crate::networks::Ipv4Net;
-use crate::text::{AddrParseError, Written};
+use crate::text::{AddrParseError, FamilyText};
 use arrayvec::ArrayVec;
 use ipnet_addr::bits::ipv4_of;
 use ipnet_addr::parser::{read_byte, read_ipv4, read_short};
@@ -119,7 +119,7 @@ impl Ipv4Net {
 }
 
 /// The text of an IPv4 network is four decimal octets, a slash and the length.
-impl Written for u32 {
+impl FamilyText for u32 {
     ghost text = { ipv4_net_text };
 
     ghost reads = { ReadsIpv4 };

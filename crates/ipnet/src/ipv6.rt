@@ -14,7 +14,7 @@ ghost use Rattle.ipnet.specs.NetworkText.{ReadsIpv6, ipv6_net_text};
 
 use crate::contains::Contains;
 use crate::networks::Ipv6Net;
-use crate::text::{AddrParseError, Written};
+use crate::text::{AddrParseError, FamilyText};
 use arrayvec::ArrayVec;
 use ipnet_addr::bits::ipv6_of;
 use ipnet_addr::parser::{read_byte, read_ipv6, read_short};
@@ -115,7 +115,7 @@ impl Ipv6Net {
 }
 
 /// The text of an IPv6 network is an address as RFC 5952 writes it, a slash and the length.
-impl Written for u128 {
+impl FamilyText for u128 {
     ghost text = { ipv6_net_text };
 
     ghost reads = { ReadsIpv6 };

@@ -8,7 +8,7 @@ ghost use Rattle.ipnet_blocks.specs.Networks.{IsNetwork, block_of, net_of};
 use crate::contains::Contains;
 use ipnet_addr::bits::{cleared, filled, ones};
 use ipnet_addr::mask::{PrefixLenError, mask_number, mask_to_prefix};
-use ipnet_addr::number::Number;
+use ipnet_addr::number::AddressInt;
 use std::alloc::AllocError;
 use std::marker::Model;
 
@@ -17,7 +17,7 @@ use std::marker::Model;
 /// Contracts see a network as the number of its address and its length. Its addresses are those that begin with the first `prefix_len`
 /// bits of its own address. Networks are ordered by address, then by length.
 #[derive(Copy, PartialEq, Eq, PartialOrd, Ord, Hash)]
-pub struct Net<N: Number> {
+pub struct Net<N: AddressInt> {
     number: N,
     len: u8,
 }
@@ -44,7 +44,7 @@ pub type Ipv4Net = Net<u32>;
 /// ```
 pub type Ipv6Net = Net<u128>;
 
-impl<N: Number> Model for Net<N> {
+impl<N: AddressInt> Model for Net<N> {
     ghost use Rattle.ipnet_blocks.specs.Networks.{Network, IsNetwork};
 
     ghost Value = { Network };
@@ -58,7 +58,7 @@ impl<N: Number> Model for Net<N> {
     ghost inverse_ok = { λ n h i. record { number = N.named n.number i; len = n.len } };
 }
 
-impl<N: Number> Clone for Net<N> {
+impl<N: AddressInt> Clone for Net<N> {
     ghost is_clone = { λ n m. m ≡ n };
 
     ghost is_infallible = { λ _. ⊤ };
@@ -68,7 +68,7 @@ impl<N: Number> Clone for Net<N> {
     }
 }
 
-impl<N: Number> Net<N> {
+impl<N: AddressInt> Net<N> {
     /// Makes the network of this address and prefix length; host bits are kept.
     ///
     /// # Errors
@@ -308,7 +308,7 @@ impl<N: Number> Net<N> {
 /// let greatest = Ipv6Addr::from_bits(u128::MAX);
 /// is_equal(&rt, Ipv6Net::default().broadcast(), greatest);
 /// ```
-impl<N: Number> Default for Net<N> {
+impl<N: AddressInt> Default for Net<N> {
     ghost is_default = { λ n. n ≡ record { number = 0; len = 0 } };
 
     fn default() -> Net<N> {

@@ -14,7 +14,7 @@ ghost use Rattle.ipnet_blocks.specs.Maximal.{IsCut};
 use crate::ip_net::IpNet;
 use crate::networks::Net;
 use ipnet_addr::mask::PrefixLenError;
-use ipnet_addr::number::Number;
+use ipnet_addr::number::AddressInt;
 use ipnet_addr::ranges::IpAddrRange;
 use ipnet_blocks::cut::first_cut;
 use std::alloc::AllocError;
@@ -24,7 +24,7 @@ use std::marker::Model;
 ///
 /// Contracts see an iterator as the numbers of its start and end, and the minimum. Iterators are ordered by start, end and minimum.
 #[derive(Copy, Debug, PartialEq, Eq, PartialOrd, Ord, Hash)]
-pub struct Subnets<N: Number> {
+pub struct Subnets<N: AddressInt> {
     start: N,
     end: N,
     min_prefix_len: u8,
@@ -44,7 +44,7 @@ pub type Ipv4Subnets = Subnets<u32>;
 /// ```
 pub type Ipv6Subnets = Subnets<u128>;
 
-impl<N: Number> Model for Subnets<N> {
+impl<N: AddressInt> Model for Subnets<N> {
     ghost use Rattle.ipnet_blocks.specs.Cuts.{Limits, AreLimits};
 
     ghost Value = { Limits };
@@ -58,7 +58,7 @@ impl<N: Number> Model for Subnets<N> {
     ghost inverse_ok = { λ s h i. record { start = N.named s.start i; end = N.named s.end i; min_prefix_len = s.min_prefix_len } };
 }
 
-impl<N: Number> Clone for Subnets<N> {
+impl<N: AddressInt> Clone for Subnets<N> {
     ghost is_clone = { λ s t. t ≡ s };
 
     ghost is_infallible = { λ _. ⊤ };
@@ -68,7 +68,7 @@ impl<N: Number> Clone for Subnets<N> {
     }
 }
 
-impl<N: Number> Subnets<N> {
+impl<N: AddressInt> Subnets<N> {
     /// The blocks from `start` to `end` of length at least `min_prefix_len`, which must be at most the width of the family. There are
     /// none if `start` is above `end`.
     ///
@@ -100,7 +100,7 @@ impl<N: Number> Subnets<N> {
 
 /// After each block the iterator starts at the next address. If the block ends at the greatest address of the family, the start is this
 /// address and the end is 0. The end is also 0 after a block of only the last address.
-impl<N: Number> Iterator for Subnets<N> {
+impl<N: AddressInt> Iterator for Subnets<N> {
     type Item = Net<N>;
 
     ghost next_gives = { λ s n t. YieldsFirst (subnets N.family) s n t × (t ≡ after_first (width N.family) s) };
@@ -163,7 +163,7 @@ impl Iterator for IpSubnets {
     }
 }
 
-impl<N: Number> Net<N> {
+impl<N: AddressInt> Net<N> {
     /// Returns the networks of this prefix length inside the network, in ascending order.
     ///
     /// # Errors

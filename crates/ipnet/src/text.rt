@@ -9,7 +9,7 @@ ghost use Rattle.ipnet.specs.IpNetText.{Reads, net_text};
 use crate::ip_net::IpNet;
 use crate::networks::{Ipv4Net, Ipv6Net, Net};
 use arrayvec::ArrayVec;
-use ipnet_addr::number::Number;
+use ipnet_addr::number::AddressInt;
 use std::str::FromStr;
 use std::{fmt, str};
 use thiserror::Error;
@@ -30,7 +30,7 @@ use thiserror::Error;
 pub struct AddrParseError(pub(crate) ());
 
 /// How networks of a family are read and printed.
-pub trait Written: Number {
+pub trait FamilyText: AddressInt {
     /// The printed text of a network.
     ghost text: { Network → List ℕ };
 
@@ -54,14 +54,14 @@ pub trait Written: Number {
         ensures { Parses reads bytes.now result };
 }
 
-impl<N: Written> Net<N> {
+impl<N: FamilyText> Net<N> {
     /// Returns the text that `Display` writes, at most 18 bytes for IPv4 and 43 for IPv6. Does not allocate.
     pub fn to_text(&self) -> ArrayVec<u8, 43>
         ensures text { result.items ≡ N.text self.now }
         ensures reads { N.reads result.items self.now }
         ensures len { length result.items ≤ N.longest }
     {
-        <N as Written>::to_text(self)
+        <N as FamilyText>::to_text(self)
     }
 
     /// Reads the network that these bytes spell, as `from_str` does. Does not allocate.
@@ -71,7 +71,7 @@ impl<N: Written> Net<N> {
     pub fn parse_ascii(text: &[u8]) -> Result<Net<N>, AddrParseError>
         ensures { Parses N.reads text.now result }
     {
-        <N as Written>::parse_ascii(text)
+        <N as FamilyText>::parse_ascii(text)
     }
 }
 
@@ -85,7 +85,7 @@ impl<N: Written> Net<N> {
 /// assert!(rt; Ipv4Net::from_str("10.0.0.0/8").is_ok());
 /// assert!(rt; Ipv4Net::from_str("10.0.0.0/33").is_err());
 /// ```
-impl<N: Written> FromStr for Net<N> {
+impl<N: FamilyText> FromStr for Net<N> {
     type Err = AddrParseError;
 
     ghost from_str_gives = { Parses N.reads };
@@ -106,7 +106,7 @@ impl<N: Written> FromStr for Net<N> {
 /// let text = format!(in rt.alloc(); "{net}").expect(&rt, "memory");
 /// assert_eq!(rt; text.as_str(), "10.1.2.3/16");
 /// ```
-impl<N: Written> fmt::Display for Net<N> {
+impl<N: FamilyText> fmt::Display for Net<N> {
     ghost output = { λ n. Some (N.text n) };
 
     ghost styled_output = { λ n _. Some (N.text n) };
@@ -118,7 +118,7 @@ impl<N: Written> fmt::Display for Net<N> {
 }
 
 /// Writes the text of `Display`.
-impl<N: Written> fmt::Debug for Net<N> {
+impl<N: FamilyText> fmt::Debug for Net<N> {
     ghost debug_output = { λ n. Some (N.text n) };
 
     fn fmt<W: fmt::Write>(&self, f: &mut fmt::Formatter<W>) -> fmt::Result

@@ -9,12 +9,12 @@ ghost use Rattle.ipnet.specs.Forms.{IsStringOf};
 
 use crate::ip_net::IpNet;
 use crate::networks::Net;
-use crate::text::{AddrParseError, Written};
+use crate::text::{AddrParseError, FamilyText};
 use serde_json::Value;
 use std::alloc::{AllocError, Global};
 use std::str::FromStr;
 
-impl<N: Written> Net<N> {
+impl<N: FamilyText> Net<N> {
     /// Returns the network's text as a JSON string.
     ///
     /// # Errors

@@ -4,7 +4,7 @@ ghost use Rattle.std.specs.Iterator.{YieldsFirstBy, YieldsLastBy, item_count, Up
 ghost use Rattle.std.specs.Iterator.SizeHint.{IsExactHint, IsWithinCount};
 ghost use Rattle.ipnet_addr.specs.Ranges.{numbers, after_front, after_back, times, IsMinimum, IsMaximum};
 
-use crate::number::Number;
+use crate::number::AddressInt;
 use crate::ranges::{count_numbers, hint_numbers, nth_back_number, nth_number};
 use std::alloc::AllocError;
 use std::marker::Model;
@@ -13,7 +13,7 @@ use std::marker::Model;
 ///
 /// Contracts see a range as the numbers of its two ends. Ranges are ordered by start, then by end.
 #[derive(Copy, Debug, PartialEq, Eq, PartialOrd, Ord, Hash)]
-pub struct AddrRange<N: Number> {
+pub struct AddrRange<N: AddressInt> {
     start: N,
     end: N,
 }
@@ -33,7 +33,7 @@ pub type Ipv4AddrRange = AddrRange<u32>;
 /// ```
 pub type Ipv6AddrRange = AddrRange<u128>;
 
-impl<N: Number> Model for AddrRange<N> {
+impl<N: AddressInt> Model for AddrRange<N> {
     ghost use Rattle.ipnet_addr.specs.Ranges.{Ends, AreEnds};
 
     ghost Value = { Ends };
@@ -47,7 +47,7 @@ impl<N: Number> Model for AddrRange<N> {
     ghost inverse_ok = { λ r h i. record { start = N.named r.start i; end = N.named r.end i } };
 }
 
-impl<N: Number> Clone for AddrRange<N> {
+impl<N: AddressInt> Clone for AddrRange<N> {
     ghost is_clone = { λ r s. s ≡ r };
 
     ghost is_infallible = { λ _. ⊤ };
@@ -57,7 +57,7 @@ impl<N: Number> Clone for AddrRange<N> {
     }
 }
 
-impl<N: Number> AddrRange<N> {
+impl<N: AddressInt> AddrRange<N> {
     /// The addresses from `start` to `end`, both included; an empty range if `start` is above `end`.
     ///
     /// # Examples
@@ -186,7 +186,7 @@ impl AddrRange<u128> {
     }
 }
 
-impl<N: Number> Iterator for AddrRange<N> {
+impl<N: AddressInt> Iterator for AddrRange<N> {
     type Item = N::Addr;
 
     ghost next_gives = { λ r a s. YieldsFirstBy N.addr_number numbers r a s × (s ≡ after_front r) };
@@ -207,7 +207,7 @@ impl<N: Number> Iterator for AddrRange<N> {
     }
 }
 
-impl<N: Number> DoubleEndedIterator for AddrRange<N> {
+impl<N: AddressInt> DoubleEndedIterator for AddrRange<N> {
     ghost next_back_gives = { λ r a s. YieldsLastBy N.addr_number numbers r a s × (s ≡ after_back r) };
 
     #[tactic(auto, using(crate::proofs::RangeCalls::back_taken, crate::proofs::RangeCalls::back_goes, crate::proofs::RangeCalls::back_once))]

@@ -4,7 +4,7 @@ ghost use Rattle.ipnet_addr.specs.Addresses.{ipv4_address, ipv6_address, address
 ghost use Rattle.ipnet_addr.specs.Masks.{mask_bits, IsMask};
 
 use crate::bits::{bit_len, ones};
-use crate::number::Number;
+use crate::number::AddressInt;
 use std::net::{IpAddr, Ipv4Addr, Ipv6Addr};
 use thiserror::Error;
 
@@ -49,7 +49,7 @@ fn mask_len(width: u8, mask: u128) -> Option<u8>
 ///
 /// # Errors
 /// - `PrefixLenError`: exactly if `mask` isn't ones followed by zeros.
-pub fn mask_to_prefix<N: Number>(mask: N::Addr) -> Result<u8, PrefixLenError>
+pub fn mask_to_prefix<N: AddressInt>(mask: N::Addr) -> Result<u8, PrefixLenError>
     ensures { MatchResult result (IsMask (record { family = N.family; number = N.addr_number mask })) (λ _. (len : ℕ) → IsMask (record { family = N.family; number = N.addr_number mask }) len → ⊥) }
 {
     mask_len(N::width(), N::of_addr(mask).to_bits()).ok_or(PrefixLenError)

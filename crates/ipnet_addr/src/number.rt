@@ -10,7 +10,7 @@ use std::net::{Ipv4Addr, Ipv6Addr};
 /// A key that is the number of an address of one family.
 ///
 /// Code for both families is generic over this number: the type `u32` means IPv4, and `u128` means IPv6.
-pub trait Number: Key {
+pub trait AddressInt: Key {
     /// The addresses of the family.
     type Addr: Copy;
 
@@ -32,7 +32,7 @@ pub trait Number: Key {
     ghost sized: { Self.width ≡ width family };
 }
 
-impl Number for u32 {
+impl AddressInt for u32 {
     type Addr = Ipv4Addr;
 
     ghost family = { Ipv4 };
@@ -52,7 +52,7 @@ impl Number for u32 {
     }
 }
 
-impl Number for u128 {
+impl AddressInt for u128 {
     type Addr = Ipv6Addr;
 
     ghost family = { Ipv6 };

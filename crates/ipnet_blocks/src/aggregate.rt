@@ -51,7 +51,7 @@ fn joined(alloc: Global, spans: Vec<Span>) -> Result<Vec<Span>, AllocError>
 }
 
 /// What `aggregated` needs from a network type of one family.
-pub trait OfFamily: Copy {
+pub trait Spanned: Copy {
     /// The family of the networks.
     ghost family: { Family };
 
@@ -74,7 +74,7 @@ pub trait OfFamily: Copy {
 }
 
 /// The spans of the networks, in the order of the networks.
-fn spans_of<N: OfFamily>(alloc: Global, networks: &Vec<N>) -> Result<Vec<Span>, AllocError>
+fn spans_of<N: Spanned>(alloc: Global, networks: &Vec<N>) -> Result<Vec<Span>, AllocError>
     ensures spans { IfOk result (λ v. v.items ≡ map (λ n. span_of N.family (N.parts n)) networks.now.items) }
     ensures fit { IfOk result (λ v. All (λ s. s.last < 2 ^ width N.family) v.items) }
 {
@@ -86,7 +86,7 @@ fn spans_of<N: OfFamily>(alloc: Global, networks: &Vec<N>) -> Result<Vec<Span>, 
 }
 
 /// The largest blocks of each span, span by span.
-fn blocks_of<N: OfFamily>(alloc: Global, spans: &Vec<Span>) -> Result<Vec<N>, AllocError>
+fn blocks_of<N: Spanned>(alloc: Global, spans: &Vec<Span>) -> Result<Vec<N>, AllocError>
     requires some { All HasNumber spans.now.items }
     requires fit { All (λ s. s.last < 2 ^ width N.family) spans.now.items }
     ensures { IfOk result (λ v. map N.parts v.items ≡ flat_map (λ s. subnets N.family (limits_of s)) spans.now.items) }
@@ -102,7 +102,7 @@ fn blocks_of<N: OfFamily>(alloc: Global, spans: &Vec<Span>) -> Result<Vec<N>, Al
 ///
 /// # Errors
 /// `AllocError` if an allocation fails.
-pub fn aggregated<N: OfFamily>(alloc: Global, networks: &Vec<N>) -> Result<Vec<N>, AllocError>
+pub fn aggregated<N: Spanned>(alloc: Global, networks: &Vec<N>) -> Result<Vec<N>, AllocError>
     ensures { IfOk result (λ v. AreAggregated N.family (map N.parts networks.now.items) (map N.parts v.items)) }
 {
     let spans = joined(alloc, spans_of(alloc, networks)?)?;

@@ -7,10 +7,10 @@ use Rattle.std.proofs.lemmas.List.{length-map}
 use Rattle.least_table.proofs.Stores.{within-whole, within_within}
 use Rattle.ipnet_blocks.specs.BitStrings.{begins}
 use Rattle.least_table.specs.BestHops.{Of, AreMerged, AreBest}
-use Rattle.least_table.specs.HopSets.{same_hop, holds, meets, fee}
+use Rattle.least_table.specs.HopSets.{same_hop, holds, meets, extra_route}
 use Rattle.least_table.specs.Laws.{ChainLaw, TreesLaw}
 use Rattle.least_table.specs.Tables.{Gives, half_of}
-use Rattle.least_table.specs.Trees.{inside, within, Tree, Leaf, Fork, Skip, best, OneOutside, inner_of, CanSkip, IsPlan, routes_of, chain_hops, chain_fee}
+use Rattle.least_table.specs.Trees.{inside, within, Tree, Leaf, Fork, Skip, best, OneOutside, inner_of, CanSkip, IsPlan, routes_of, chain_hops, chain_extra_route}
 use Rattle.least_table.proofs.Halves.{Gives-whole}
 use Rattle.least_table.proofs.Makes.{Makes, Best-stay, distance-empty, empty_law, fork_made, made_nearest, stay_made}
 use Rattle.least_table.proofs.Merges.{Best-fork}
@@ -54,15 +54,15 @@ merged_swap as' bs cs m j = m j ∙ rw (meets_swap as' bs, and_comm (holds as' j
 
 -- one level
 Best-level : (b : Bool) (w : ℕ) (h : List Bool → Option ℕ) (k : Option ℕ) (hops : List (Option ℕ)) (m : ℕ) → AreBest w (half_of b h) [] (Of hops) m
-    → ((x : List Bool) → length x ≡ w → half_of (not b) h x ≡ k) → AreBest (suc w) h [] (Of (cond (holds hops k) (k ∷ []) (k ∷ hops))) (m + fee (holds hops k))
+    → ((x : List Bool) → length x ≡ w → half_of (not b) h x ≡ k) → AreBest (suc w) h [] (Of (cond (holds hops k) (k ∷ []) (k ∷ hops))) (m + extra_route (holds hops k))
 Best-level true w h k hops m inner one =
     let c = cond (holds hops k) (k ∷ []) (k ∷ hops) in
-    let r : AreBest (suc w) h [] (Of c) (0 + m + fee (meets (k ∷ []) hops)) = Best-fork w h [] tt refl (Of (k ∷ [])) (Of hops) (Of c) 0 m (Best-leaf w (half_of false h) k one) inner (merged_left k hops) in
-    subst (λ n. AreBest (suc w) h [] (Of c) n) (ap (λ u. 0 + m + fee u) (meets_one k hops) ∙ ap (λ n. n + fee (holds hops k)) (zero-add m)) r
+    let r : AreBest (suc w) h [] (Of c) (0 + m + extra_route (meets (k ∷ []) hops)) = Best-fork w h [] tt refl (Of (k ∷ [])) (Of hops) (Of c) 0 m (Best-leaf w (half_of false h) k one) inner (merged_left k hops) in
+    subst (λ n. AreBest (suc w) h [] (Of c) n) (ap (λ u. 0 + m + extra_route u) (meets_one k hops) ∙ ap (λ n. n + extra_route (holds hops k)) (zero-add m)) r
 Best-level false w h k hops m inner one =
     let c = cond (holds hops k) (k ∷ []) (k ∷ hops) in
-    let r : AreBest (suc w) h [] (Of c) (m + 0 + fee (meets hops (k ∷ []))) = Best-fork w h [] tt refl (Of hops) (Of (k ∷ [])) (Of c) m 0 inner (Best-leaf w (half_of true h) k one) (merged_swap (k ∷ []) hops c (merged_left k hops)) in
-    subst (λ n. AreBest (suc w) h [] (Of c) n) (ap (λ u. m + 0 + fee u) (meets_swap hops (k ∷ []) ∙ meets_one k hops) ∙ ap (λ n. n + fee (holds hops k)) (add-zero m)) r
+    let r : AreBest (suc w) h [] (Of c) (m + 0 + extra_route (meets hops (k ∷ []))) = Best-fork w h [] tt refl (Of hops) (Of (k ∷ [])) (Of c) m 0 inner (Best-leaf w (half_of true h) k one) (merged_swap (k ∷ []) hops c (merged_left k hops)) in
+    subst (λ n. AreBest (suc w) h [] (Of c) n) (ap (λ u. m + 0 + extra_route u) (meets_swap hops (k ∷ []) ∙ meets_one k hops) ∙ ap (λ n. n + extra_route (holds hops k)) (add-zero m)) r
 
 -- ---- a chain of levels
 
@@ -91,16 +91,16 @@ pub chain_law : ChainLaw
 chain_law [] v h k hops m inner one = rw (zero-add, add-zero) inner
 chain_law (b ∷ []) v h k hops m inner one =
     let below : AreBest (length {A = Bool} [] + v) (half_of b h) [] (Of hops) m = rw (zero-add) inner in
-    subst (λ n. AreBest n h [] (Of (chain_hops k hops (b ∷ []))) (m + fee (holds hops k))) (one_more 0 v) (Best-level b (0 + v) h k hops m below (other_half b [] v h k one))
+    subst (λ n. AreBest n h [] (Of (chain_hops k hops (b ∷ []))) (m + extra_route (holds hops k))) (one_more 0 v) (Best-level b (0 + v) h k hops m below (other_half b [] v h k one))
 chain_law (b ∷ c ∷ ds) v h k hops m inner one =
     let S = chain_hops k hops (c ∷ ds) in
-    let n = m + fee (holds hops k) in
+    let n = m + extra_route (holds hops k) in
     let w = length (c ∷ ds) + v in
     let below : AreBest w (half_of b h) [] (Of S) n = chain_law (c ∷ ds) v (half_of b h) k hops m inner (outside_half b (c ∷ ds) v h k one) in
     let r = Best-level b w h k S n below (other_half b (c ∷ ds) v h k one) in
     let e : holds S k ≡ true = chain_holds k hops c ds in
     subst (λ i. AreBest i h [] (Of (k ∷ [])) n) (one_more (length (c ∷ ds)) v)
-    (subst (λ i. AreBest (suc w) h [] (Of (k ∷ [])) i) (add-zero n) (subst (λ u. AreBest (suc w) h [] (Of (cond u (k ∷ []) (k ∷ S))) (n + fee u)) e r))
+    (subst (λ i. AreBest (suc w) h [] (Of (k ∷ [])) i) (add-zero n) (subst (λ u. AreBest (suc w) h [] (Of (cond u (k ∷ []) (k ∷ S))) (n + extra_route u)) e r))
 
 -- where a chain can be skipped, k alone is best
 chain_one : (k : Option ℕ) (hops : List (Option ℕ)) (ds : List Bool) → CanSkip hops k ds → chain_hops k hops ds ≡ k ∷ []
@@ -109,19 +109,19 @@ chain_one k hops (b ∷ []) (p, inl e) = rw e refl
 chain_one k hops (b ∷ []) (p, inr e) = absurd (omega (arith, e))
 chain_one k hops (b ∷ c ∷ ds) p = refl
 
-chain_costs : (k : Option ℕ) (hops : List (Option ℕ)) (ds : List Bool) → CanSkip hops k ds → chain_fee k hops ds ≡ fee (holds hops k)
+chain_costs : (k : Option ℕ) (hops : List (Option ℕ)) (ds : List Bool) → CanSkip hops k ds → chain_extra_route k hops ds ≡ extra_route (holds hops k)
 chain_costs k hops [] c = absurd (omega (arith, c.0))
 chain_costs k hops (b ∷ ds) c = refl
 
 Best-skip : (ds : List Bool) (v : ℕ) (h : List Bool → Option ℕ) (k : Option ℕ) (hops : List (Option ℕ)) (m : ℕ) → CanSkip hops k ds →
-    AreBest v (inner_of ds h) [] (Of hops) m → OneOutside (length ds + v) h ds k → AreBest (length ds + v) h [] (Of (k ∷ [])) (m + fee (holds hops k))
+    AreBest v (inner_of ds h) [] (Of hops) m → OneOutside (length ds + v) h ds k → AreBest (length ds + v) h [] (Of (k ∷ [])) (m + extra_route (holds hops k))
 Best-skip ds v h k hops m c inner one = rw (← chain_one k hops ds c, ← chain_costs k hops ds c) (chain_law ds v h k hops m inner one)
 
 -- how many routes the tree has if its block inherits a best hop
 abbrev count : Tree → ℕ
 count (Leaf k) = 0
-count (Fork hops l r) = count l + count r + fee (meets (best l) (best r))
-count (Skip k ds t) = count t + fee (holds (best t) k)
+count (Fork hops l r) = count l + count r + extra_route (meets (best l) (best r))
+count (Skip k ds t) = count t + extra_route (holds (best t) k)
 
 Best-tree : (w : ℕ) (h : List Bool → Option ℕ) (t : Tree) → IsPlan w h t → AreBest w h [] (Of (best t)) (count t)
 Best-tree w h (Leaf k) same = Best-leaf w h k same
@@ -145,7 +145,7 @@ Gives-within (false ∷ ds) v h k t g one =
     rw (← u, ← one_more (length ds) v) (Gives-whole n h k None (within ds t) [] (Gives-within ds v (half_of false h) k t g (outside_half false ds v h k one)) (one_hop n (half_of true h) k (other_half false ds v h k one)))
 
 skip_made : (ds : List Bool) (v : ℕ) (h : List Bool → Option ℕ) (k s : Option ℕ) (t : List (List Bool × Option ℕ)) (m : ℕ) → 0 < length ds → OneOutside (length ds + v) h ds k → Makes v (inner_of ds h) k [] t m
-    → Makes (length ds + v) h s [] (cond (same_hop s k) (within ds t) (([], k) ∷ within ds t)) (m + fee (same_hop s k))
+    → Makes (length ds + v) h s [] (cond (same_hop s k) (within ds t) (([], k) ∷ within ds t)) (m + extra_route (same_hop s k))
 skip_made ds v h k s t m l one made = go (same_hop s k) refl
   where
     g : Gives (length ds + v) h k (within ds t)
@@ -154,15 +154,15 @@ skip_made ds v h k s t m l one made = go (same_hop s k) refl
     long : length (within ds t) ≡ m
     long = length-map t (λ r. (ds ++ r.0, r.1)) ∙ sym (distance-empty t) ∙ made.far
 
-    go : (c : Bool) → same_hop s k ≡ c → Makes (length ds + v) h s [] (cond c (within ds t) (([], k) ∷ within ds t)) (m + fee c)
+    go : (c : Bool) → same_hop s k ≡ c → Makes (length ds + v) h s [] (cond c (within ds t) (([], k) ∷ within ds t)) (m + extra_route c)
     go true e = record { gives = rw (same_hop-true s k e) g; far = distance-empty (within ds t) ∙ omega (arith, long) }
     go false e = record { gives = Gives-with (length ds + v) h s (Some k) (within ds t) (own-within ds t l) g; far = distance-empty (([], k) ∷ within ds t) ∙ omega (arith, long) }
 
-makes : (w : ℕ) (h : List Bool → Option ℕ) (t : Tree) → IsPlan w h t → (s : Option ℕ) → Makes w h s [] (routes_of t s) (count t + fee (holds (best t) s))
+makes : (w : ℕ) (h : List Bool → Option ℕ) (t : Tree) → IsPlan w h t → (s : Option ℕ) → Makes w h s [] (routes_of t s) (count t + extra_route (holds (best t) s))
 makes w h (Leaf k) same s = rw (one_holds k s) (stay_made w h [] tt k same (replicate w false) (length-replicate w false) refl s)
 makes w h (Skip k ds t) plan s =
     let v = plan.0 in
-    rw (plan.1, one_holds k s) (skip_made ds v h k s (routes_of t k) (count t + fee (holds (best t) k)) plan.2.0 plan.3 (makes v (inner_of ds h) t plan.4 k))
+    rw (plan.1, one_holds k s) (skip_made ds v h k s (routes_of t k) (count t + extra_route (holds (best t) k)) plan.2.0 plan.3 (makes v (inner_of ds h) t plan.4 k))
 makes w h (Fork hops l r) plan s =
     let v = plan.0 in
     rw (plan.1) (fork_made v h [] tt refl (Of (best l)) (Of (best r)) (Of hops) (count l) (count r) plan.2 (Best-tree w h (Fork hops l r) plan).some (routes_of l) (routes_of r) (makes v (half_of false h) l plan.3) (makes v (half_of true h) r plan.4) s)

@@ -2,7 +2,7 @@
 use Rattle.std.proofs.Common.{◌≡◌, ℕ, ◌+◌, Bool, true, false, cond, not, ◌&&◌, ◌||◌, List, [], ◌∷◌, length, Option, Some, None, is_some, refl, ap, ◌∙◌, arith}
 use Rattle.std.proofs.Math.Bool.{or-false}
 use Rattle.least_table.specs.Nearest.{same_string, has, stores, missing, surplus, distance}
-use Rattle.least_table.specs.HopSets.{same_hop, fee}
+use Rattle.least_table.specs.HopSets.{same_hop, extra_route}
 use Rattle.least_table.specs.Tables.{IsTable, half, own}
 use Rattle.least_table.proofs.Split.{own-absent}
 
@@ -45,13 +45,13 @@ stores-own ((b ∷ c, j) ∷ t) = stores-own t
 -- the number of routes of the whole block that are missing, and of those that are surplus
 abbrev own_missing : List (List Bool × Option ℕ) → Option (Option ℕ) → ℕ
 own_missing t None = 0
-own_missing t (Some k) = fee (has t ([], k))
+own_missing t (Some k) = extra_route (has t ([], k))
 
 abbrev own_surplus : Option (Option ℕ) → List (List Bool × Option ℕ) → ℕ
 own_surplus None u = 0
-own_surplus (Some k) u = fee (stores u [])
+own_surplus (Some k) u = extra_route (stores u [])
 
-kept : (v : Bool) (r : List Bool × Option ℕ) (rs : List (List Bool × Option ℕ)) → length (cond (not v) (r ∷ rs) rs) ≡ fee v + length rs
+kept : (v : Bool) (r : List Bool × Option ℕ) (rs : List (List Bool × Option ℕ)) → length (cond (not v) (r ∷ rs) rs) ≡ extra_route v + length rs
 kept true r rs = omega arith
 kept false r rs = omega arith
 
@@ -76,7 +76,7 @@ abbrev pub change : Option (Option ℕ) → Option (Option ℕ) → ℕ
 change None None = 0
 change None (Some k) = 1
 change (Some j) None = 1
-change (Some j) (Some k) = fee (same_hop j k)
+change (Some j) (Some k) = extra_route (same_hop j k)
 
 own_change : (w : ℕ) (t u : List (List Bool × Option ℕ)) → IsTable w t → own_missing t (own u) + own_surplus (own t) u ≡ change (own t) (own u)
 own_change w t u h = go (own t) (own u) refl refl

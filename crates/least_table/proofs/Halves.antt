@@ -1,7 +1,7 @@
 -- The fewest operations inside a block, from those inside its halves.
 use Rattle.std.proofs.Common.{◌≡◌, ◌≢◌, ℕ, suc, ◌+◌, ◌≤◌, Bool, true, false, cond, List, [], ◌∷◌, length, Option, Some, None, refl, sym, ap, ap₂, ◌∙◌, arith, inl, inr, ◌⊎◌, add-one, ⊎_elim}
 use Rattle.std.proofs.lemmas.Bool.{cases_Bool}
-use Rattle.least_table.specs.HopSets.{same_hop, fee}
+use Rattle.least_table.specs.HopSets.{same_hop, extra_route}
 use Rattle.least_table.specs.Tables.{IsTable, hop_of, longer, hop_under, Gives, half_of, half, own, passed}
 use Rattle.least_table.specs.Wholes.{whole}
 use Rattle.ipnet_blocks.specs.Halves.{IsLesser}
@@ -63,7 +63,7 @@ change_one None (Some k) = omega arith
 change_one (Some j) None = omega arith
 change_one (Some j) (Some k) = go (same_hop j k)
   where
-    go : (v : Bool) → fee v ≤ 1
+    go : (v : Bool) → extra_route v ≤ 1
     go true = omega arith
     go false = omega arith
 
@@ -71,7 +71,7 @@ pub change_cases : (a b : Option (Option ℕ)) → (a ≡ b) ⊎ (change a b ≡
 change_cases None None = inl refl
 change_cases None (Some k) = inr refl
 change_cases (Some j) None = inr refl
-change_cases (Some j) (Some k) = ⊎_elim (λ e. inl (ap Some (same_hop-true j k e))) (λ e. inr (ap fee e)) (cases_Bool (same_hop j k))
+change_cases (Some j) (Some k) = ⊎_elim (λ e. inl (ap Some (same_hop-true j k e))) (λ e. inr (ap extra_route e)) (cases_Bool (same_hop j k))
 
 module _ (w : ℕ) (h : List Bool → Option ℕ) (t : List (List Bool × Option ℕ)) (table : IsTable (suc w) t) (f g : Option ℕ → ℕ)
     (below : (k : Option ℕ) → IsFewest w (half_of false h) (half t false) k (f k)) (above : (k : Option ℕ) → IsFewest w (half_of true h) (half t true) k (g k)) where

@@ -10,7 +10,7 @@ use Rattle.least_table.specs.InnerSteps.{Step, step_best}
 use Rattle.least_table.specs.InnerSteps as steps
 use Rattle.least_table.specs.declared.plan.Packed.{Packed}
 use Rattle.least_table.specs.declared.plan.Packed.TheVariants as packed
-use Rattle.least_table.specs.declared.plan.Planned.TheVariants as planned
+use Rattle.least_table.specs.declared.plan.LowerPlan.TheVariants as planned
 use Rattle.least_table.specs.declared.plan.Steps.{Steps}
 use Rattle.least_table.proofs.Chains.{merged_left, merged_swap}
 use Rattle.least_table.proofs.Gathers.{best_last}

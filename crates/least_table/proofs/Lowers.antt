@@ -11,7 +11,7 @@ use Rattle.least_table.specs.InnerPlans.{Ends, EndsIn, Fits, IsHeld, IsPlanOf, O
 use Rattle.least_table.specs.InnerPlans as plans
 use Rattle.least_table.specs.InnerSteps.{Step}
 use Rattle.least_table.specs.InnerSteps as steps
-use Rattle.least_table.specs.declared.plan.Planned.{Planned}
+use Rattle.least_table.specs.declared.plan.LowerPlan.{LowerPlan}
 use Rattle.least_table.specs.declared.plan.Steps.{Steps}
 use Rattle.least_table.specs.declared.planner.Lower.{Lower}
 use Rattle.least_table.specs.declared.planner.Planner.{Planner}
@@ -157,7 +157,7 @@ module _ (w : ℕ) where
   some_step xs p s h = omega (arith, ap length h.steps ∙ length-append xs (steps_of p), ap length (top_last p), length-append (below p) (top p ∷ []))
 
   -- the one that the last piece lies in, where the next one lies in the upper half
-  pub turned : (a z : List Bool) (n : ℕ) (held : Planned) (os : List Lower) (ps : List (List Bool × ℕ)) (s t : Steps) → Parts a z n → (h : ArePlanned w a (n + 1) (n + 1) ps os s) → IsHeld held h.plans.plan h.before (steps_in t)
+  pub turned : (a z : List Bool) (n : ℕ) (held : LowerPlan) (os : List Lower) (ps : List (List Bool × ℕ)) (s t : Steps) → Parts a z n → (h : ArePlanned w a (n + 1) (n + 1) ps os s) → IsHeld held h.plans.plan h.before (steps_in t)
       → AreLowers w (reverse (os ++ record { depth = n; planned = held } ∷ [])) z (length z) ps (steps_in t)
   turned a z n held os ps s t p h i = subst (λ us. AreLowers w us z (length z) ps (steps_in t)) (sym (reverse-append os (record { depth = n; planned = held } ∷ []))) (
     p.other,

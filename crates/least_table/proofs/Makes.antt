@@ -1,14 +1,14 @@
 -- Tables that give a block its hops, by the hop that it inherits, and how far they are from the installed routes.
 use Rattle.std.proofs.Common.{◌≡◌, ℕ, zero, suc, ◌+◌, ◌≤◌, Bool, true, false, cond, List, [], ◌∷◌, length, Option, Some, None, refl, sym, ap, ◌∙◌, subst, arith, ⊎_elim}
 use Rattle.least_table.specs.BestHops.{Hops, Of, wants, first, agree, AreMerged, AreBest}
-use Rattle.least_table.specs.HopSets.{same_hop, fee}
+use Rattle.least_table.specs.HopSets.{same_hop, extra_route}
 use Rattle.least_table.specs.Laws.{EmptyLaw}
 use Rattle.least_table.specs.Nearest.{IsFewest, IsNearest, distance, missing}
 use Rattle.least_table.specs.Tables.{IsTable, Gives, half, half_of, hop_of, hop_under, longest, own, passed}
 use Rattle.least_table.specs.Wholes.{with_own}
 use Rattle.least_table.proofs.Distances.{change, distance-halves}
 use Rattle.least_table.proofs.Halves.{Gives-whole, change_same, change_cases, distance-whole, hop-empty, host_distance}
-use Rattle.least_table.proofs.Merges.{fees, first-wanted}
+use Rattle.least_table.proofs.Merges.{extra_routes, first-wanted}
 use Rattle.least_table.proofs.Owns.{Gives-with, distance-below, distance-with}
 use Rattle.least_table.proofs.Sets.{one_holds, same_hop-refl, same_hop-true}
 use Rattle.least_table.proofs.Split.{hop-half, IsTable-half, joined, lifted, longest-half}
@@ -55,7 +55,7 @@ pub record Makes (w : ℕ) (h : List Bool → Option ℕ) (s : Option ℕ) (t u 
   pub far : distance t u ≡ n
 
 -- such a table is a nearest one if the block needs as many
-pub made_nearest : (w : ℕ) (h : List Bool → Option ℕ) (s : Option ℕ) (t u : List (List Bool × Option ℕ)) (hops : Hops) (m : ℕ) → AreBest w h t hops m → Makes w h s t u (m + fee (wants hops s)) → IsNearest w h s t u
+pub made_nearest : (w : ℕ) (h : List Bool → Option ℕ) (s : Option ℕ) (t u : List (List Bool × Option ℕ)) (hops : Hops) (m : ℕ) → AreBest w h t hops m → Makes w h s t u (m + extra_route (wants hops s)) → IsNearest w h s t u
 made_nearest w h s t u hops m best made = record { gives = made.gives; nearest = λ v g. omega (arith, made.far, (best.needs s).least v g) }
 
 -- ---- a block with an address without a route, whose routes stay if it inherits k
@@ -65,13 +65,13 @@ module _ (w : ℕ) (h : List Bool → Option ℕ) (t : List (List Bool × Option
   stays : Gives w h k t
   stays = record { table = table; same = λ x l. sym (same x l) }
 
-  pub stay_made : (s : Option ℕ) → Makes w h s t (cond (same_hop s k) t (([], k) ∷ t)) (0 + fee (same_hop s k))
+  pub stay_made : (s : Option ℕ) → Makes w h s t (cond (same_hop s k) t (([], k) ∷ t)) (0 + extra_route (same_hop s k))
   stay_made s = go (same_hop s k) refl
     where
       none : own t ≡ None
       none = own_covers w t x table free
 
-      go : (v : Bool) → same_hop s k ≡ v → Makes w h s t (cond v t (([], k) ∷ t)) (0 + fee v)
+      go : (v : Bool) → same_hop s k ≡ v → Makes w h s t (cond v t (([], k) ∷ t)) (0 + extra_route v)
       go true e = record { gives = subst (λ o. Gives w h o t) (sym (same_hop-true s k e)) stays; far = distance-self w t table }
       go false e = record {
         gives = Gives-with w h s (Some k) t none stays;
@@ -91,31 +91,31 @@ module _ (w : ℕ) (h : List Bool → Option ℕ) (t : List (List Bool × Option
       go (suc n) f = omega arith
 
   pub Best-stay : AreBest w h t (Of (k ∷ [])) 0
-  Best-stay = record { some = (k, rw (same_hop-refl k) refl); needs = λ s. subst (IsFewest w h t s) (ap (λ v. 0 + fee v) (sym (one_holds k s))) (record { reached = (cond (same_hop s k) t (([], k) ∷ t), (stay_made s).gives, (stay_made s).far); least = low s }) }
+  Best-stay = record { some = (k, rw (same_hop-refl k) refl); needs = λ s. subst (IsFewest w h t s) (ap (λ v. 0 + extra_route v) (sym (one_holds k s))) (record { reached = (cond (same_hop s k) t (([], k) ∷ t), (stay_made s).gives, (stay_made s).far); least = low s }) }
     where
-      low : (s : Option ℕ) (v : List (List Bool × Option ℕ)) → Gives w h s v → 0 + fee (same_hop s k) ≤ distance t v
+      low : (s : Option ℕ) (v : List (List Bool × Option ℕ)) → Gives w h s v → 0 + extra_route (same_hop s k) ≤ distance t v
       low s v g = go (same_hop s k) refl
         where
-          go : (c : Bool) → same_hop s k ≡ c → 0 + fee c ≤ distance t v
+          go : (c : Bool) → same_hop s k ≡ c → 0 + extra_route c ≤ distance t v
           go true e = omega arith
           go false e = apart s e v g
 
 -- ---- a block without a route, by tables of its halves
 
 module _ (w : ℕ) (h : List Bool → Option ℕ) (t : List (List Bool × Option ℕ)) (table : IsTable (suc w) t) (none : own t ≡ None) (a b c : Hops) (m n : ℕ) (merged : AreMerged a b c) (some : (k : Option ℕ) × (wants c k ≡ true))
-    (l r : Option ℕ → List (List Bool × Option ℕ)) (low : (k : Option ℕ) → Makes w (half_of false h) k (half t false) (l k) (m + fee (wants a k))) (high : (k : Option ℕ) → Makes w (half_of true h) k (half t true) (r k) (n + fee (wants b k))) where
+    (l r : Option ℕ → List (List Bool × Option ℕ)) (low : (k : Option ℕ) → Makes w (half_of false h) k (half t false) (l k) (m + extra_route (wants a k))) (high : (k : Option ℕ) → Makes w (half_of true h) k (half t true) (r k) (n + extra_route (wants b k))) where
   -- both halves inherit a best hop
-  both : (s : Option ℕ) (o : Option (Option ℕ)) → wants c (passed s o) ≡ true → Makes (suc w) h s t (with_own o (joined (l (passed s o)) (r (passed s o)))) (m + n + fee (agree a b) + change None o)
+  both : (s : Option ℕ) (o : Option (Option ℕ)) → wants c (passed s o) ≡ true → Makes (suc w) h s t (with_own o (joined (l (passed s o)) (r (passed s o)))) (m + n + extra_route (agree a b) + change None o)
   both s o e = record {
     gives = Gives-whole w h s o (l (passed s o)) (r (passed s o)) (low (passed s o)).gives (high (passed s o)).gives;
     far = distance-whole (suc w) w t o (l (passed s o)) (r (passed s o)) table (low (passed s o)).gives.table (high (passed s o)).gives.table
-        ∙ omega (arith, ap (λ p. change p o) none, (low (passed s o)).far, (high (passed s o)).far, fees a b c merged (passed s o) e);
+        ∙ omega (arith, ap (λ p. change p o) none, (low (passed s o)).far, (high (passed s o)).far, extra_routes a b c merged (passed s o) e);
   }
 
-  pub fork_made : (s : Option ℕ) → Makes (suc w) h s t (cond (wants c s) (joined (l s) (r s)) (([], first c) ∷ joined (l (first c)) (r (first c)))) (m + n + fee (agree a b) + fee (wants c s))
+  pub fork_made : (s : Option ℕ) → Makes (suc w) h s t (cond (wants c s) (joined (l s) (r s)) (([], first c) ∷ joined (l (first c)) (r (first c)))) (m + n + extra_route (agree a b) + extra_route (wants c s))
   fork_made s = go (wants c s) refl
     where
-      go : (v : Bool) → wants c s ≡ v → Makes (suc w) h s t (cond v (joined (l s) (r s)) (([], first c) ∷ joined (l (first c)) (r (first c)))) (m + n + fee (agree a b) + fee v)
+      go : (v : Bool) → wants c s ≡ v → Makes (suc w) h s t (cond v (joined (l s) (r s)) (([], first c) ∷ joined (l (first c)) (r (first c)))) (m + n + extra_route (agree a b) + extra_route v)
       go true e = both s None e
       go false e = both s (Some (first c)) (first-wanted c some.0 some.1)
 

@@ -8,7 +8,7 @@ use Rattle.least_table.specs.InnerSteps as steps
 use Rattle.least_table.specs.InnerSets.{KeepsSets}
 use Rattle.least_table.specs.InnerPacked.{step_of, IsKept, AreKept, AreWhole, best_at, steps_in, Grows}
 use Rattle.least_table.specs.declared.plan.Packed.{Packed}
-use Rattle.least_table.specs.declared.plan.Packed.TheVariants.{Leaf, Rising, Falling, One, Nowhere, Either, Several, LowerEither, LowerSeveral, UpperEither, UpperSeveral, Skip, Around}
+use Rattle.least_table.specs.declared.plan.Packed.TheVariants.{Leaf, Rising, Falling, This, NoHop, ThisOrNoHop, Set, LowerThisOrNoHop, LowerSet, UpperThisOrNoHop, UpperSet, Skip, Around}
 use Rattle.least_table.specs.declared.plan.Steps.{Steps}
 
 module _ (sets new : List (List (Option ℕ))) (keeps : KeepsSets sets new) where
@@ -16,14 +16,14 @@ module _ (sets new : List (List (Option ℕ))) (keeps : KeepsSets sets new) wher
   step_front (Leaf k) h = refl
   step_front (Rising at) h = ap (λ ks. steps.Pair (first_of ks) (second_of ks) ks) (keeps at h).1
   step_front (Falling at) h = ap (λ ks. steps.Pair (second_of ks) (first_of ks) ks) (keeps at h).1
-  step_front (One k) h = refl
-  step_front Nowhere h = refl
-  step_front (Either k) h = refl
-  step_front (Several at) h = ap (λ ks. steps.Fork ks) (keeps at h).1
-  step_front (LowerEither k) h = refl
-  step_front (LowerSeveral at) h = ap (λ ks. steps.Half false (first_of ks) (drop 1 ks)) (keeps at h).1
-  step_front (UpperEither k) h = refl
-  step_front (UpperSeveral at) h = ap (λ ks. steps.Half true (first_of ks) (drop 1 ks)) (keeps at h).1
+  step_front (This k) h = refl
+  step_front NoHop h = refl
+  step_front (ThisOrNoHop k) h = refl
+  step_front (Set at) h = ap (λ ks. steps.Fork ks) (keeps at h).1
+  step_front (LowerThisOrNoHop k) h = refl
+  step_front (LowerSet at) h = ap (λ ks. steps.Half false (first_of ks) (drop 1 ks)) (keeps at h).1
+  step_front (UpperThisOrNoHop k) h = refl
+  step_front (UpperSet at) h = ap (λ ks. steps.Half true (first_of ks) (drop 1 ks)) (keeps at h).1
   step_front (Skip n x) h = refl
   step_front (Around n x k) h = refl
 
@@ -31,14 +31,14 @@ module _ (sets new : List (List (Option ℕ))) (keeps : KeepsSets sets new) wher
   kept_front (Leaf k) h = tt
   kept_front (Rising at) h = (keeps at h).0
   kept_front (Falling at) h = (keeps at h).0
-  kept_front (One k) h = tt
-  kept_front Nowhere h = tt
-  kept_front (Either k) h = tt
-  kept_front (Several at) h = (keeps at h).0
-  kept_front (LowerEither k) h = tt
-  kept_front (LowerSeveral at) h = (keeps at h).0
-  kept_front (UpperEither k) h = tt
-  kept_front (UpperSeveral at) h = (keeps at h).0
+  kept_front (This k) h = tt
+  kept_front NoHop h = tt
+  kept_front (ThisOrNoHop k) h = tt
+  kept_front (Set at) h = (keeps at h).0
+  kept_front (LowerThisOrNoHop k) h = tt
+  kept_front (LowerSet at) h = (keeps at h).0
+  kept_front (UpperThisOrNoHop k) h = tt
+  kept_front (UpperSet at) h = (keeps at h).0
   kept_front (Skip n x) h = h
   kept_front (Around n x k) h = h
 

@@ -1,6 +1,6 @@
 -- The best inherited hops of a block: any hop, or those of a list.
 use Rattle.std.specs.Prelude.{◌≡◌, ℕ, ◌+◌, Bool, true, cond, ◌&&◌, ◌||◌, List, Option, None}
-use Rattle.least_table.specs.HopSets.{holds, meets, first_of, fee}
+use Rattle.least_table.specs.HopSets.{holds, meets, first_of, extra_route}
 use Rattle.least_table.specs.Nearest.{IsFewest}
 
 -- any hop or none, or the hops of a list
@@ -35,4 +35,4 @@ AreMerged a b c = (k : Option ℕ) → wants c k ≡ cond (agree a b) (wants a k
 -- a block of w free bits needs m operations if it inherits one of these hops, and one more if it inherits any other hop or none
 pub record AreBest (w : ℕ) (h : List Bool → Option ℕ) (t : List (List Bool × Option ℕ)) (hops : Hops) (m : ℕ) : Type 0 where
   pub some : (k : Option ℕ) × (wants hops k ≡ true)
-  pub needs : (s : Option ℕ) → IsFewest w h t s (m + fee (wants hops s))
+  pub needs : (s : Option ℕ) → IsFewest w h t s (m + extra_route (wants hops s))

@@ -23,5 +23,5 @@ first_of [] = None
 first_of (k ∷ ks) = k
 
 -- 0 for a hop that is among the best, and one operation for any other
-abbrev pub fee : Bool → ℕ
-fee b = cond b 0 1
+abbrev pub extra_route : Bool → ℕ
+extra_route b = cond b 0 1

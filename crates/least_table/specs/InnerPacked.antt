@@ -7,7 +7,7 @@ use Rattle.least_table.specs.InnerSets.{HasSet, set_at}
 use Rattle.least_table.specs.InnerSteps.{Step, step_best}
 use Rattle.least_table.specs.InnerSteps as steps
 use Rattle.least_table.specs.declared.plan.Packed.{Packed}
-use Rattle.least_table.specs.declared.plan.Packed.TheVariants.{Leaf, Rising, Falling, One, Nowhere, Either, Several, LowerEither, LowerSeveral, UpperEither, UpperSeveral, Skip, Around}
+use Rattle.least_table.specs.declared.plan.Packed.TheVariants.{Leaf, Rising, Falling, This, NoHop, ThisOrNoHop, Set, LowerThisOrNoHop, LowerSet, UpperThisOrNoHop, UpperSet, Skip, Around}
 use Rattle.least_table.specs.declared.plan.Steps.{Steps}
 use Rattle.least_table.specs.declared.plan.Best.{Best}
 use Rattle.least_table.specs.declared.plan.Best.TheVariants as bests
@@ -17,14 +17,14 @@ abbrev pub step_of : List (List (Option ℕ)) → Packed → Step
 step_of sets (Leaf k) = steps.Leaf (Some k)
 step_of sets (Rising at) = steps.Pair (first_of (set_at sets at)) (second_of (set_at sets at)) (set_at sets at)
 step_of sets (Falling at) = steps.Pair (second_of (set_at sets at)) (first_of (set_at sets at)) (set_at sets at)
-step_of sets (One k) = steps.Fork (Some k ∷ [])
-step_of sets Nowhere = steps.Fork (None ∷ [])
-step_of sets (Either k) = steps.Fork (None ∷ Some k ∷ [])
-step_of sets (Several at) = steps.Fork (set_at sets at)
-step_of sets (LowerEither k) = steps.Half false None (None ∷ Some k ∷ [])
-step_of sets (LowerSeveral at) = steps.Half false (first_of (set_at sets at)) (drop 1 (set_at sets at))
-step_of sets (UpperEither k) = steps.Half true None (None ∷ Some k ∷ [])
-step_of sets (UpperSeveral at) = steps.Half true (first_of (set_at sets at)) (drop 1 (set_at sets at))
+step_of sets (This k) = steps.Fork (Some k ∷ [])
+step_of sets NoHop = steps.Fork (None ∷ [])
+step_of sets (ThisOrNoHop k) = steps.Fork (None ∷ Some k ∷ [])
+step_of sets (Set at) = steps.Fork (set_at sets at)
+step_of sets (LowerThisOrNoHop k) = steps.Half false None (None ∷ Some k ∷ [])
+step_of sets (LowerSet at) = steps.Half false (first_of (set_at sets at)) (drop 1 (set_at sets at))
+step_of sets (UpperThisOrNoHop k) = steps.Half true None (None ∷ Some k ∷ [])
+step_of sets (UpperSet at) = steps.Half true (first_of (set_at sets at)) (drop 1 (set_at sets at))
 step_of sets (Skip n x) = steps.Skip None (digits n x)
 step_of sets (Around n x k) = steps.Skip (Some k) (digits n x)
 
@@ -33,14 +33,14 @@ abbrev pub IsKept : List (List (Option ℕ)) → Packed → Type 0
 IsKept sets (Leaf k) = ⊤
 IsKept sets (Rising at) = HasSet sets at
 IsKept sets (Falling at) = HasSet sets at
-IsKept sets (One k) = ⊤
-IsKept sets Nowhere = ⊤
-IsKept sets (Either k) = ⊤
-IsKept sets (Several at) = HasSet sets at
-IsKept sets (LowerEither k) = ⊤
-IsKept sets (LowerSeveral at) = HasSet sets at
-IsKept sets (UpperEither k) = ⊤
-IsKept sets (UpperSeveral at) = HasSet sets at
+IsKept sets (This k) = ⊤
+IsKept sets NoHop = ⊤
+IsKept sets (ThisOrNoHop k) = ⊤
+IsKept sets (Set at) = HasSet sets at
+IsKept sets (LowerThisOrNoHop k) = ⊤
+IsKept sets (LowerSet at) = HasSet sets at
+IsKept sets (UpperThisOrNoHop k) = ⊤
+IsKept sets (UpperSet at) = HasSet sets at
 IsKept sets (Skip n x) = (n ≤ 16) × (x < 2 ^ n)
 IsKept sets (Around n x k) = (n ≤ 16) × (x < 2 ^ n)
 

@@ -9,8 +9,8 @@ use Rattle.least_table.specs.InnerSteps.{Step, step_best}
 use Rattle.least_table.specs.InnerSteps as steps
 use Rattle.least_table.specs.Trees.{Tree, IsPlan, routes_of, within}
 use Rattle.least_table.specs.Trees as trees
-use Rattle.least_table.specs.declared.plan.Planned.{Planned}
-use Rattle.least_table.specs.declared.plan.Planned.TheVariants as planned
+use Rattle.least_table.specs.declared.plan.LowerPlan.{LowerPlan}
+use Rattle.least_table.specs.declared.plan.LowerPlan.TheVariants as planned
 use Rattle.least_table.specs.declared.plan.Steps.{Steps}
 
 -- the steps of a block and of the smaller blocks in it, together
@@ -83,7 +83,7 @@ pub record EndsIn (n : ℕ) (xs : List Step) (p : Plan) (s : Steps) : Type 0 whe
   pub room : Fits n (tree_of p)
 
 -- the steps are xs followed by the plan p of a lower half, unless this half has one hop; then it has no step
-abbrev pub IsHeld : Planned → Plan → List Step → List Step → Type 0
+abbrev pub IsHeld : LowerPlan → Plan → List Step → List Step → Type 0
 IsHeld (planned.Leaf k) p xs ys = (p ≡ Leaf (Some k)) × (ys ≡ xs)
 IsHeld (planned.At at) p xs ys = (ys ≡ xs ++ steps_of p) × (suc at ≡ length ys)
 

@@ -2,7 +2,7 @@
 use Rattle.std.specs.Prelude.{◌≡◌, ℕ, suc, ◌+◌, ◌<◌, ◌⊎◌, Bool, true, false, cond, List, [], ◌∷◌, ◌++◌, map, length, Option}
 use Rattle.ipnet_blocks.specs.BitStrings.{begins}
 use Rattle.least_table.specs.Tables.{half_of}
-use Rattle.least_table.specs.HopSets.{same_hop, holds, fee, first_of}
+use Rattle.least_table.specs.HopSets.{same_hop, holds, extra_route, first_of}
 use Rattle.least_table.specs.BestHops.{Of, AreMerged}
 
 -- A block whose addresses all have one hop; a block cut into halves, and its best inherited hops; and a block in which all addresses
@@ -60,6 +60,6 @@ chain_hops k hops (b ∷ []) = cond (holds hops k) (k ∷ []) (k ∷ hops)
 chain_hops k hops (b ∷ c ∷ ds) = k ∷ []
 
 -- the number of routes that these levels add
-abbrev pub chain_fee : Option ℕ → List (Option ℕ) → List Bool → ℕ
-chain_fee k hops [] = 0
-chain_fee k hops (b ∷ ds) = fee (holds hops k)
+abbrev pub chain_extra_route : Option ℕ → List (Option ℕ) → List Bool → ℕ
+chain_extra_route k hops [] = 0
+chain_extra_route k hops (b ∷ ds) = extra_route (holds hops k)

@@ -8,8 +8,8 @@ pub mod laws;
 mod plan;
 mod planner;
 mod routes;
+mod skipped_bits;
 mod stack;
-mod turns;
 
 pub use planner::Planner;
 pub use routes::Routes;

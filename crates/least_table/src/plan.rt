@@ -9,15 +9,15 @@ ghost use Rattle.least_table.specs.InnerPlans as plans;
 ghost use Rattle.least_table.specs.InnerPlans.{Ends, EndsIn, IsHeld, OfHalf, OfHalves, Plan, Stores, steps_of, top};
 ghost use Rattle.least_table.specs.InnerRising.{IsRising};
 ghost use Rattle.least_table.specs.InnerShapes.{shape_of};
-ghost use Rattle.least_table.specs.declared.plan.Planned.TheVariants as planned;
+ghost use Rattle.least_table.specs.declared.plan.LowerPlan.TheVariants as planned;
 ghost use Rattle.least_table.specs.InnerSteps.{Leaf, Fork, Half, Skip, Step, AreNetworks, step_best};
 
 use crate::bits::bit;
 use crate::hops::{Hops, first, is_among, merge, others, second};
 use crate::kept_sets::KeptSets;
 use crate::routes::Routes;
+use crate::skipped_bits::SkippedBits;
 use crate::stack::Stack;
-use crate::turns::Turns;
 use prefix_trie::{Key, Prefix};
 use std::alloc::{AllocError, Global};
 use std::slice;
@@ -35,21 +35,21 @@ enum Packed {
     /// As `Rising`, but the hop of the lower half is the second of the set.
     Falling(u32),
     /// The block is cut into halves, the lower half first. This hop is best.
-    One(u32),
+    This(u32),
     /// The block is cut into halves, the lower half first. No hop is best.
-    Nowhere,
+    NoHop,
     /// The block is cut into halves, the lower half first. Both no hop and this hop are best.
-    Either(u32),
+    ThisOrNoHop(u32),
     /// The block is cut into halves, the lower half first. The hops of the set with this identifier are best.
-    Several(u32),
+    Set(u32),
     /// Only addresses of the lower half have hops. Both no hop and this hop are best.
-    LowerEither(u32),
+    LowerThisOrNoHop(u32),
     /// The upper half has one hop, the first of the set with this identifier. The other hops of the set are best.
-    LowerSeveral(u32),
+    LowerSet(u32),
     /// Only addresses of the upper half have hops. Both no hop and this hop are best.
-    UpperEither(u32),
+    UpperThisOrNoHop(u32),
     /// The lower half has one hop, the first of the set with this identifier. The other hops of the set are best.
-    UpperSeveral(u32),
+    UpperSet(u32),
     /// Only addresses of a smaller block have hops. It is this many levels below, on the path of these bits.
     Skip(u8, u16),
     /// All addresses outside a smaller block have this hop. The smaller block is this many levels below, on the path of these bits.
@@ -70,7 +70,7 @@ enum Shape {
     /// Into an upper half, and a lower half with one hop.
     Upper(Option<u32>),
     /// Into the smaller block on this path, and the addresses around it, which have one hop.
-    Skip(Turns),
+    Skip(SkippedBits),
 }
 
 /// The best inherited hops of a block, ascending.
@@ -99,7 +99,7 @@ impl<'a> Best<'a> {
 
 /// The plan of a lower half.
 #[derive(Clone, Copy)]
-pub(crate) enum Planned {
+pub(crate) enum LowerPlan {
     /// All addresses of the half have this hop, and its plan has no step.
     Leaf(u32),
     /// The index of the plan's last step.
@@ -107,7 +107,7 @@ pub(crate) enum Planned {
 }
 
 /// The step of a block in which all addresses outside the smaller block on this path have one hop.
-fn skip(turns: Turns, hop: Option<u32>) -> Packed
+fn skip(turns: SkippedBits, hop: Option<u32>) -> Packed
     ensures { IsAlways result (Skip hop turns) }
 {
     match hop {
@@ -123,10 +123,12 @@ fn wider(step: Packed, is_upper: bool, hop: Option<u32>) -> Option<Packed>
     ensures { IfSome result (λ wide. (sets : List (List (Option ℕ))) → IsWider is_upper hop (step_of sets step) wide) }
 {
     let inner = match (step, hop) {
-        (Packed::Skip(levels, bits), None) => Turns::of(levels, bits),
-        (Packed::Around(levels, bits, own), Some(hop)) if own == hop => Turns::of(levels, bits),
-        (Packed::LowerEither(_), None) => Turns::one(false),
-        (Packed::UpperEither(_), None) => Turns::one(true),
+        (Packed::Skip(levels, bits), None) => SkippedBits::of(levels, bits),
+        (Packed::Around(levels, bits, own), Some(hop)) if own == hop => {
+            SkippedBits::of(levels, bits)
+        }
+        (Packed::LowerThisOrNoHop(_), None) => SkippedBits::one(false),
+        (Packed::UpperThisOrNoHop(_), None) => SkippedBits::one(true),
         _ => return None,
     };
     Some(skip(inner.from_above(is_upper)?, hop))
@@ -211,7 +213,7 @@ impl Steps {
         ensures { OnOk result (Grows self.old self.new (Fork hops.now ∷ [])) }
     {
         let at = self.sets.push(hops)?;
-        self.steps.push(Packed::Several(at))
+        self.steps.push(Packed::Set(at))
     }
 
     /// Appends the step of a block that is cut into halves; these hops are best.
@@ -220,9 +222,9 @@ impl Steps {
         ensures { OnOk result (Grows self.old self.new (Fork hops.now ∷ [])) }
     {
         match hops {
-            [Some(hop)] => self.push(Packed::One(*hop)),
-            [None] => self.push(Packed::Nowhere),
-            [None, Some(hop)] => self.push(Packed::Either(*hop)),
+            [Some(hop)] => self.push(Packed::This(*hop)),
+            [None] => self.push(Packed::NoHop),
+            [None, Some(hop)] => self.push(Packed::ThisOrNoHop(*hop)),
             _ => self.push_several(hops),
         }
     }
@@ -235,9 +237,9 @@ impl Steps {
     {
         let at = self.sets.push(set)?;
         if is_upper {
-            self.steps.push(Packed::UpperSeveral(at))
+            self.steps.push(Packed::UpperSet(at))
         } else {
-            self.steps.push(Packed::LowerSeveral(at))
+            self.steps.push(Packed::LowerSet(at))
         }
     }
 
@@ -255,9 +257,9 @@ impl Steps {
     {
         if let (None, [None, Some(other)]) = (hop, hops) {
             return if is_upper {
-                self.push(Packed::UpperEither(*other))
+                self.push(Packed::UpperThisOrNoHop(*other))
             } else {
-                self.push(Packed::LowerEither(*other))
+                self.push(Packed::LowerThisOrNoHop(*other))
             };
         }
         let mut set = Vec::with_capacity(alloc, hops.len())?;
@@ -272,17 +274,17 @@ impl Steps {
         ensures { hops_in result ≡ step_best (step_of self.now.sets step) }
     {
         match step {
-            Packed::Leaf(hop) | Packed::One(hop) | Packed::Around(_, _, hop) => {
+            Packed::Leaf(hop) | Packed::This(hop) | Packed::Around(_, _, hop) => {
                 Best::One(Some(hop))
             }
-            Packed::Nowhere | Packed::Skip(_, _) => Best::One(None),
-            Packed::Either(hop) | Packed::LowerEither(hop) | Packed::UpperEither(hop) => {
-                Best::Two([None, Some(hop)])
-            }
-            Packed::Several(at) | Packed::Rising(at) | Packed::Falling(at) => {
+            Packed::NoHop | Packed::Skip(_, _) => Best::One(None),
+            Packed::ThisOrNoHop(hop)
+            | Packed::LowerThisOrNoHop(hop)
+            | Packed::UpperThisOrNoHop(hop) => { Best::Two([None, Some(hop)]) }
+            Packed::Set(at) | Packed::Rising(at) | Packed::Falling(at) => {
                 Best::Several(self.sets.get(at))
             }
-            Packed::LowerSeveral(at) | Packed::UpperSeveral(at) => {
+            Packed::LowerSet(at) | Packed::UpperSet(at) => {
                 Best::Several(others(self.sets.get(at)))
             }
         }
@@ -329,7 +331,7 @@ impl Steps {
         }
         let best = self.best(last);
         if is_among(best.as_slice(), hop) {
-            return self.push(skip(Turns::one(is_upper), hop));
+            return self.push(skip(SkippedBits::one(is_upper), hop));
         }
         let hops = merge(alloc, &[hop], best.as_slice())?;
         self.push_half(alloc, is_upper, hop, hops.as_slice())
@@ -359,26 +361,26 @@ impl Steps {
     }
 
     /// Returns the last plan. If all addresses of its block have one hop, its step is removed.
-    pub(crate) fn hold(&mut self) -> Planned
+    pub(crate) fn take_lower(&mut self) -> LowerPlan
         requires { (xs : List Step) × (p : Plan) × Ends xs p self.old }
         ensures { (xs : List Step) (p : Plan) → Ends xs p self.old → IsHeld result p xs (steps_in self.new) × AreWhole self.new }
     {
         match self.pop_leaf() {
-            Some(hop) => Planned::Leaf(hop),
-            None => Planned::At(self.len() - 1),
+            Some(hop) => LowerPlan::Leaf(hop),
+            None => LowerPlan::At(self.len() - 1),
         }
     }
 
     /// Combines the plans of both halves of a block into one plan. That of the upper half is the last one.
-    pub(crate) fn join(&mut self, alloc: Global, low: Planned) -> Result<(), AllocError>
+    pub(crate) fn join(&mut self, alloc: Global, low: LowerPlan) -> Result<(), AllocError>
         requires { (xs : List Step) × (ys : List Step) × (p : Plan) × (q : Plan) × IsHeld low p xs ys × IsRising (step_best (top p)) × Ends ys q self.old }
         ensures { OnOk result ((xs : List Step) (ys : List Step) (p : Plan) (q : Plan) → IsHeld low p xs ys → IsRising (step_best (top p)) → Ends ys q self.old → (r : Plan) × OfHalves p q r × Ends xs r self.new) }
     {
         match (low, self.pop_leaf()) {
-            (Planned::Leaf(low), Some(high)) => self.push_pair(low, high),
-            (Planned::Leaf(low), None) => self.widen(alloc, true, Some(low)),
-            (Planned::At(_), Some(high)) => self.widen(alloc, false, Some(high)),
-            (Planned::At(low), None) => self.fork(alloc, low),
+            (LowerPlan::Leaf(low), Some(high)) => self.push_pair(low, high),
+            (LowerPlan::Leaf(low), None) => self.widen(alloc, true, Some(low)),
+            (LowerPlan::At(_), Some(high)) => self.widen(alloc, false, Some(high)),
+            (LowerPlan::At(low), None) => self.fork(alloc, low),
         }
     }
 
@@ -397,50 +399,50 @@ impl Steps {
                 let hops = self.sets.get(at);
                 Shape::Pair(second(hops), first(hops))
             }
-            Packed::One(_) | Packed::Nowhere | Packed::Either(_) | Packed::Several(_) => {
+            Packed::This(_) | Packed::NoHop | Packed::ThisOrNoHop(_) | Packed::Set(_) => {
                 Shape::Fork
             }
-            Packed::LowerEither(_) => Shape::Lower(None),
-            Packed::LowerSeveral(at) => Shape::Lower(first(self.sets.get(at))),
-            Packed::UpperEither(_) => Shape::Upper(None),
-            Packed::UpperSeveral(at) => Shape::Upper(first(self.sets.get(at))),
+            Packed::LowerThisOrNoHop(_) => Shape::Lower(None),
+            Packed::LowerSet(at) => Shape::Lower(first(self.sets.get(at))),
+            Packed::UpperThisOrNoHop(_) => Shape::Upper(None),
+            Packed::UpperSet(at) => Shape::Upper(first(self.sets.get(at))),
             Packed::Skip(levels, bits) | Packed::Around(levels, bits, _) => {
-                Shape::Skip(Turns::of(levels, bits))
+                Shape::Skip(SkippedBits::of(levels, bits))
             }
         }
     }
 
-    /// The hop that a block passes on to its parts if it inherits `handed`, and whether it needs a route for that.
-    fn choice(&self, step: Packed, handed: Option<u32>) -> (Option<u32>, bool)
+    /// The hop that a block passes on to its parts if it inherits the hop `inherited`, and whether it needs a route for that.
+    fn choice(&self, step: Packed, inherited: Option<u32>) -> (Option<u32>, bool)
         requires { IsKept self.now.sets step }
-        ensures hop { result.0 ≡ passed_on (Of (step_best (step_of self.now.sets step))) handed }
-        ensures route { result.1 ≡ not (holds (step_best (step_of self.now.sets step)) handed) }
+        ensures hop { result.0 ≡ passed_on (Of (step_best (step_of self.now.sets step))) inherited }
+        ensures route { result.1 ≡ not (holds (step_best (step_of self.now.sets step)) inherited) }
     {
         let best = self.best(step);
-        if is_among(best.as_slice(), handed) {
-            (handed, false)
+        if is_among(best.as_slice(), inherited) {
+            (inherited, false)
         } else {
             (first(best.as_slice()), true)
         }
     }
 
-    /// Removes the steps of the plan of the block at `path`, which inherits `handed`, and adds its routes before the others.
+    /// Removes the steps of the plan of the block at `path`, which inherits the hop `inherited`, and adds its routes before the others.
     pub(crate) fn take<P: Prefix + Copy>(
         &mut self,
         path: &Path,
-        handed: Option<u32>,
+        inherited: Option<u32>,
         routes: &mut Routes<P>,
     ) -> Result<(), AllocError>
         requires short { P.R.width ≤ 128 }
         requires inside { length path.now ≤ P.R.width }
         requires plan { (xs : List Step) × (p : Plan) × EndsIn (P.R.width - length path.now) xs p self.old }
-        ensures stores { OnOk result ((xs : List Step) (p : Plan) → EndsIn (P.R.width - length path.now) xs p self.old → Stores P.bits path.now handed xs p routes.old routes.new self.old self.new) }
+        ensures stores { OnOk result ((xs : List Step) (p : Plan) → EndsIn (P.R.width - length path.now) xs p self.old → Stores P.bits path.now inherited xs p routes.old routes.new self.old self.new) }
         ensures networks { OnOk result (AreNetworks P.fits P.of_bits P.bits routes.old → AreNetworks P.fits P.of_bits P.bits routes.new) }
     {
         let Some(step) = self.steps.pop() else {
             return Ok(());
         };
-        let (hop, is_new) = self.choice(step, handed);
+        let (hop, is_new) = self.choice(step, inherited);
         match self.shape(step) {
             Shape::Leaf => routes.add_own(path, hop, is_new),
             Shape::Pair(low, high) => {

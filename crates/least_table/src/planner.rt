@@ -10,7 +10,7 @@ ghost use Rattle.least_table.specs.InnerSteps.{AreNetworks};
 ghost use Rattle.least_table.specs.InnerPlanners.{AreLowers, ArePlanned, HasPlanned, IsInside};
 
 use crate::bits::common;
-use crate::plan::{Planned, Steps};
+use crate::plan::{LowerPlan, Steps};
 use crate::routes::Routes;
 use prefix_trie::{Key, Prefix, path_of};
 use std::alloc::{AllocError, Global};
@@ -23,7 +23,7 @@ struct Lower {
     /// The length of the block that has these halves.
     depth: u8,
     /// The plan of the lower half.
-    planned: Planned,
+    planned: LowerPlan,
 }
 
 /// Removes and returns the innermost lower half, if its block has at least `depth` bits.
@@ -88,7 +88,7 @@ impl<P: Prefix + Copy> Planner<P> {
     {
         let depth = common(last, path);
         self.close(last, depth + 1)?;
-        let planned = self.steps.hold();
+        let planned = self.steps.take_lower();
         self.lowers.push(Lower { depth, planned })?;
         Ok(())
     }

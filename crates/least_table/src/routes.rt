@@ -79,13 +79,13 @@ impl<P: Prefix + Copy> Routes<P> {
         &mut self,
         path: &Path,
         hop: Option<u32>,
-        handed: Option<u32>,
+        inherited: Option<u32>,
     ) -> Result<(), AllocError>
         requires { length path.now ≤ P.R.width }
-        ensures routes { OnOk result (strings P.bits self.new ≡ cond (same_hop handed hop) [] ((path.now, hop) ∷ []) ++ strings P.bits self.old) }
+        ensures routes { OnOk result (strings P.bits self.new ≡ cond (same_hop inherited hop) [] ((path.now, hop) ∷ []) ++ strings P.bits self.old) }
         ensures networks { OnOk result (AreNetworks P.fits P.of_bits P.bits self.old → AreNetworks P.fits P.of_bits P.bits self.new) }
     {
-        if is_same(handed, hop) {
+        if is_same(inherited, hop) {
             return Ok(());
         }
         self.add(path, hop)

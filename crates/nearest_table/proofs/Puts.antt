@@ -11,7 +11,7 @@ use Rattle.nearest_table.specs.Plans.{Tree, Stay, Fork, Held, IsPlan, edits_of, 
 use Rattle.least_table.specs.Trees.{inside, within, inner_of}
 use Rattle.least_table.specs.Tables.{IsTable, half, half_of, hop_of, hop_under, own, passed}
 use Rattle.least_table.specs.Wholes.{bare, whole}
-use Rattle.nearest_table.specs.Blocks.{handed, inner, put, around, innermost}
+use Rattle.nearest_table.specs.Blocks.{inherited, inner, put, around, innermost}
 use Rattle.nearest_table.specs.Told.{new_hop, told_hop}
 use Rattle.nearest_table.specs.declared.plans.Plan.{Plan}
 use Rattle.least_table.proofs.Stores.{within-whole, within_within}
@@ -57,9 +57,9 @@ hop-around : (ds : List Bool) (o : Option (Option ℕ)) (s : Option ℕ) (t : Li
 hop-around [] o s t x = refl
 hop-around (b ∷ ds) o s t x = hop-half (passed s o) t b (ds ++ x) ∙ ap (λ k. hop_under k (half t b) (ds ++ x)) (passed_told o (own t) s) ∙ hop-around ds (innermost o (own t)) s (half t b) x
 
-handed_around : (ds : List Bool) (o : Option (Option ℕ)) (s : Option ℕ) (t : List (List Bool × Option ℕ)) → handed ds (passed s o) t ≡ passed s (around ds o t)
-handed_around [] o s t = refl
-handed_around (b ∷ ds) o s t = ap (λ k. handed ds k (half t b)) (passed_told o (own t) s) ∙ handed_around ds (innermost o (own t)) s (half t b)
+inherited_around : (ds : List Bool) (o : Option (Option ℕ)) (s : Option ℕ) (t : List (List Bool × Option ℕ)) → inherited ds (passed s o) t ≡ passed s (around ds o t)
+inherited_around [] o s t = refl
+inherited_around (b ∷ ds) o s t = ap (λ k. inherited ds k (half t b)) (passed_told o (own t) s) ∙ inherited_around ds (innermost o (own t)) s (half t b)
 
 pub IsTable-inner : (ds : List Bool) (v : ℕ) (t : List (List Bool × Option ℕ)) → IsTable (length ds + v) t → IsTable v (inner ds t)
 IsTable-inner [] v t h = subst (λ i. IsTable i t) (omega arith) h
@@ -92,8 +92,8 @@ module _ (W : ℕ) (ds : List Bool) (fits : length ds ≤ W) where
       → Plans (W - length ds) told old (inner ds cs) (inner ds t) p → es ≡ within ds (edits_of (tree_of p) old) → MakeNearest W cs t es
   made cs t old told p es table order inside o_is t_is plan es_is = record {
     table = put ds t u;
-    nearest = subst (λ i. IsNearest i (told_hop cs t) None t (put ds t u)) width (local_law ds (W - length ds) (told_hop cs t) None t u wide outside (nearest_same (W - length ds) (new_hop told old (inner ds cs) (inner ds t)) (inner_of ds (told_hop cs t)) (handed ds None t) (inner ds t) u hops
-        (subst (λ s. IsNearest (W - length ds) (new_hop told old (inner ds cs) (inner ds t)) s (inner ds t) u) (o_is ∙ sym (handed_around ds None None t)) (plans_law (W - length ds) (new_hop told old (inner ds cs) (inner ds t)) old (inner ds t) (tree_of p) (table_at t table) plan.0))));
+    nearest = subst (λ i. IsNearest i (told_hop cs t) None t (put ds t u)) width (local_law ds (W - length ds) (told_hop cs t) None t u wide outside (nearest_same (W - length ds) (new_hop told old (inner ds cs) (inner ds t)) (inner_of ds (told_hop cs t)) (inherited ds None t) (inner ds t) u hops
+        (subst (λ s. IsNearest (W - length ds) (new_hop told old (inner ds cs) (inner ds t)) s (inner ds t) u) (o_is ∙ sym (inherited_around ds None None t)) (plans_law (W - length ds) (new_hop told old (inner ds cs) (inner ds t)) old (inner ds t) (tree_of p) (table_at t table) plan.0))));
     order = ordered_put ds t u order (ordered_new (W - length ds) (new_hop told old (inner ds cs) (inner ds t)) (inner ds t) (tree_of p) (table_at t table) (ordered_inner ds t order) plan.0 old);
     edits = subst (AreEdits t (put ds t u)) (sym es_is) (edits-put ds (W - length ds) t u (edits_of (tree_of p) old) wide order (edits_law (W - length ds) (new_hop told old (inner ds cs) (inner ds t)) old (inner ds t) (tree_of p) (table_at t table) (ordered_inner ds t order) plan.0));
   }

@@ -2,7 +2,7 @@
 use Rattle.std.proofs.Common.{◌≡◌, ℕ, suc, ◌+◌, Bool, true, false, cond, List, [], ◌∷◌, length, Option, Some, None, refl, sym, ap, ap₂, ◌∙◌, subst, arith}
 use Rattle.std.proofs.lemmas.Bool.{false_from_ne_true}
 use Rattle.least_table.specs.BestHops.{Hops, Of, Any, wants, first, agree, AreBest}
-use Rattle.least_table.specs.HopSets.{same_hop, holds, fee, first_of}
+use Rattle.least_table.specs.HopSets.{same_hop, holds, extra_route, first_of}
 use Rattle.least_table.specs.Nearest.{IsFewest, distance}
 use Rattle.least_table.specs.Tables.{IsTable, half, half_of, hop_of, hop_under, longest, own, passed}
 use Rattle.least_table.specs.Wholes.{bare, with_own}
@@ -35,8 +35,8 @@ stays_any w h t table k same c s = record { gives = record { table = table; same
 -- the number of operations of a plan if the block inherits a best hop
 abbrev pub count : Tree → ℕ
 count (Stay hops) = 0
-count (Fork hops l r) = count l + count r + fee (agree (best l) (best r))
-count (Held k p) = count p + fee (wants (best p) k)
+count (Fork hops l r) = count l + count r + extra_route (agree (best l) (best r))
+count (Held k p) = count p + extra_route (wants (best p) k)
 
 pub Best-plan : (w : ℕ) (h : List Bool → Option ℕ) (t : List (List Bool × Option ℕ)) (p : Tree) → IsTable w t → IsPlan w h t p → AreBest w h t (best p) (count p)
 Best-plan w h t (Stay Any) table plan = record { some = (None, refl); needs = λ s. let m = stays_any w h t table plan.0 plan.1.0 plan.1.1 s in record { reached = (t, m.gives, m.far); least = λ v g. omega arith } }
@@ -44,13 +44,13 @@ Best-plan w h t (Stay (Of ks)) table plan = subst (λ l. AreBest w h t (Of l) 0)
 Best-plan w h t (Fork hops l r) table plan =
     let v = plan.0 in
     let less : IsTable (suc v) t = subst (λ i. IsTable i t) plan.1 table in
-    subst (λ i. AreBest i h t hops (count l + count r + fee (agree (best l) (best r)))) (sym plan.1)
+    subst (λ i. AreBest i h t hops (count l + count r + extra_route (agree (best l) (best r)))) (sym plan.1)
     (Best-fork v h t less plan.2 (best l) (best r) hops (count l) (count r) (Best-plan v (half_of false h) (half t false) l (IsTable-half v t false less) plan.4) (Best-plan v (half_of true h) (half t true) r (IsTable-half v t true less) plan.5) plan.3)
 Best-plan w h t (Held k p) table plan =
     let b = Best-plan w h (bare t) p (IsTable-bare w t table) plan.1 in
     record {
       some = (None, refl);
-      needs = λ s. subst (IsFewest w h t s) (omega arith) (own_fewest w h t table k plan.0 s (count p + fee (wants (best p) k)) (b.needs k));
+      needs = λ s. subst (IsFewest w h t s) (omega arith) (own_fewest w h t table k plan.0 s (count p + extra_route (wants (best p) k)) (b.needs k));
     }
 
 -- the first best hop is one of them, and so differs from a hop that isn't
@@ -67,7 +67,7 @@ plain w h t (Fork hops l r) plan e s f = rw f (own-joined (new_table l (half t f
 plain w h t (Held k p) plan e s f = let g = plan.0 in cc
 
 module _ (w : ℕ) (h : List Bool → Option ℕ) (t : List (List Bool × Option ℕ)) (k : Option ℕ) (p : Tree) (table : IsTable w t) (held : own t ≡ Some k) (plan : IsPlan w h (bare t) p)
-    (inner : (c : Option ℕ) → Makes w h c (bare t) (new_table p (bare t) c) (count p + fee (wants (best p) c))) where
+    (inner : (c : Option ℕ) → Makes w h c (bare t) (new_table p (bare t) c) (count p + extra_route (wants (best p) c))) where
   nothing : (c : Option ℕ) → wants (best p) c ≡ true → own (new_table p (bare t) c) ≡ None
   nothing c e = plain w h (bare t) p plan (own-bare t) c e
 
@@ -78,7 +78,7 @@ module _ (w : ℕ) (h : List Bool → Option ℕ) (t : List (List Bool × Option
     ap₂ change (own-bare t) (nothing c e),
     ap₂ (λ x y. distance x (half (new_table p (bare t) c) false) + distance y (half (new_table p (bare t) c) true)) (half-bare t false) (half-bare t true),
     (inner c).far,
-    ap fee e,
+    ap extra_route e,
   )
 
   -- with this own route, or none, in the place of the one that is held
@@ -91,23 +91,23 @@ module _ (w : ℕ) (h : List Bool → Option ℕ) (t : List (List Bool × Option
   some : wants (best p) (first (best p)) ≡ true
   some = first_best w h (bare t) p (IsTable-bare w t table) plan
 
-  held_makes : (s : Option ℕ) → Makes w h s t (new_table (Held k p) t s) (count p + fee (wants (best p) k) + 0)
+  held_makes : (s : Option ℕ) → Makes w h s t (new_table (Held k p) t s) (count p + extra_route (wants (best p) k) + 0)
   held_makes s = go (wants (best p) k) (wants (best p) s) refl refl
     where
       go : (u v : Bool) → wants (best p) k ≡ u → wants (best p) s ≡ v
-          → Makes w h s t (cond u (([], k) ∷ new_table p (bare t) k) (cond v (new_table p (bare t) s) (([], first (best p)) ∷ new_table p (bare t) (first (best p))))) (count p + fee u + 0)
+          → Makes w h s t (cond u (([], k) ∷ new_table p (bare t) k) (cond v (new_table p (bare t) s) (([], first (best p)) ∷ new_table p (bare t) (first (best p))))) (count p + extra_route u + 0)
       go true v e f = subst (Makes w h s t (([], k) ∷ new_table p (bare t) k)) (omega (arith, change_same (Some k))) (in_place s (Some k) e)
       go false true e f = subst (Makes w h s t (new_table p (bare t) s)) (omega arith) (in_place s None f)
-      go false false e f = subst (Makes w h s t (([], first (best p)) ∷ new_table p (bare t) (first (best p)))) (omega (arith, ap fee (other_hop (best p) k (first (best p)) e some))) (in_place s (Some (first (best p))) some)
+      go false false e f = subst (Makes w h s t (([], first (best p)) ∷ new_table p (bare t) (first (best p)))) (omega (arith, ap extra_route (other_hop (best p) k (first (best p)) e some))) (in_place s (Some (first (best p))) some)
 
-makes : (w : ℕ) (h : List Bool → Option ℕ) (t : List (List Bool × Option ℕ)) (p : Tree) → IsTable w t → IsPlan w h t p → (s : Option ℕ) → Makes w h s t (new_table p t s) (count p + fee (wants (best p) s))
+makes : (w : ℕ) (h : List Bool → Option ℕ) (t : List (List Bool × Option ℕ)) (p : Tree) → IsTable w t → IsPlan w h t p → (s : Option ℕ) → Makes w h s t (new_table p t s) (count p + extra_route (wants (best p) s))
 makes w h t (Stay Any) table plan s = stays_any w h t table plan.0 plan.1.0 plan.1.1 s
 makes w h t (Stay (Of ks)) table plan s =
-    subst (λ l. Makes w h s t (cond (holds l s) t (([], first_of l) ∷ t)) (0 + fee (holds l s))) (sym plan.1.0)
-    (subst (λ v. Makes w h s t (cond v t (([], plan.0) ∷ t)) (0 + fee v)) (sym (one_holds plan.0 s)) (stay_made w h t table plan.0 plan.1.1 plan.1.2 plan.1.3 plan.1.4 s))
+    subst (λ l. Makes w h s t (cond (holds l s) t (([], first_of l) ∷ t)) (0 + extra_route (holds l s))) (sym plan.1.0)
+    (subst (λ v. Makes w h s t (cond v t (([], plan.0) ∷ t)) (0 + extra_route v)) (sym (one_holds plan.0 s)) (stay_made w h t table plan.0 plan.1.1 plan.1.2 plan.1.3 plan.1.4 s))
 makes w h t (Fork hops l r) table plan s =
     let less : IsTable (suc plan.0) t = subst (λ i. IsTable i t) plan.1 table in
-    subst (λ i. Makes i h s t (new_table (Fork hops l r) t s) (count (Fork hops l r) + fee (wants hops s))) (sym plan.1)
+    subst (λ i. Makes i h s t (new_table (Fork hops l r) t s) (count (Fork hops l r) + extra_route (wants hops s))) (sym plan.1)
     (fork_made plan.0 h t less plan.2 (best l) (best r) hops (count l) (count r) plan.3 (Best-plan w h t (Fork hops l r) table plan).some (new_table l (half t false)) (new_table r (half t true))
     (makes plan.0 (half_of false h) (half t false) l (IsTable-half plan.0 t false less) plan.4) (makes plan.0 (half_of true h) (half t true) r (IsTable-half plan.0 t true less) plan.5) s)
 makes w h t (Held k p) table plan s = held_makes w h t k p table plan.0 plan.1 (makes w h (bare t) p (IsTable-bare w t table) plan.1) s

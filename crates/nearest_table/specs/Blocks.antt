@@ -18,9 +18,9 @@ inner [] t = t
 inner (b ∷ ds) t = inner ds (half t b)
 
 -- the hop that the block ds inherits from the routes around it, if the whole inherits s
-abbrev pub handed : List Bool → Option ℕ → List (List Bool × Option ℕ) → Option ℕ
-handed [] s t = s
-handed (b ∷ ds) s t = handed ds (passed s (own t)) (half t b)
+abbrev pub inherited : List Bool → Option ℕ → List (List Bool × Option ℕ) → Option ℕ
+inherited [] s t = s
+inherited (b ∷ ds) s t = inherited ds (passed s (own t)) (half t b)
 
 -- the hop of the inner one of two routes, if there is one
 abbrev pub innermost : Option (Option ℕ) → Option (Option ℕ) → Option (Option ℕ)

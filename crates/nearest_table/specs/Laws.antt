@@ -5,7 +5,7 @@ use Rattle.least_table.specs.InnerOrders.{IsInOrder}
 use Rattle.least_table.specs.Nearest.{IsNearest}
 use Rattle.least_table.specs.Tables.{IsTable, hop_under}
 use Rattle.least_table.specs.Trees.{inner_of}
-use Rattle.nearest_table.specs.Blocks.{handed, inner, put}
+use Rattle.nearest_table.specs.Blocks.{inherited, inner, put}
 use Rattle.nearest_table.specs.Edits.{AreEdits}
 use Rattle.nearest_table.specs.Plans.{Tree, IsPlan, edits_of, new_table}
 
@@ -14,7 +14,7 @@ use Rattle.nearest_table.specs.Plans.{Tree, IsPlan, edits_of, new_table}
 abbrev pub LocalLaw : Type 0
 LocalLaw = (ds : List Bool) (v : ℕ) (h : List Bool → Option ℕ) (s : Option ℕ) (t u : List (List Bool × Option ℕ)) → IsTable (length ds + v) t →
     ((x : List Bool) → length x ≡ length ds + v → begins ds x ≡ false → h x ≡ hop_under s t x) →
-    IsNearest v (inner_of ds h) (handed ds s t) (inner ds t) u → IsNearest (length ds + v) h s t (put ds t u)
+    IsNearest v (inner_of ds h) (inherited ds s t) (inner ds t) u → IsNearest (length ds + v) h s t (put ds t u)
 
 -- the table of a plan is a nearest one
 abbrev pub PlansLaw : Type 0

@@ -39,12 +39,12 @@ fn settle(
     edits: &mut Vec<(Path, Option<Option<u32>>)>,
     block: &Path,
     hops: Option<&[Option<u32>]>,
-    handed: Option<u32>,
+    inherited: Option<u32>,
 ) -> Result<Option<u32>, AllocError>
-    ensures { IfOk result (λ passed. (passed ≡ passed_on (hops_from hops.entry) handed) × (edits.new.items ≡ edits.old.items ++ settled block.now (hops_from hops.entry) handed)) }
+    ensures { IfOk result (λ passed. (passed ≡ passed_on (hops_from hops.entry) inherited) × (edits.new.items ≡ edits.old.items ++ settled block.now (hops_from hops.entry) inherited)) }
 {
-    if is_wanted(hops, handed) {
-        return Ok(handed);
+    if is_wanted(hops, inherited) {
+        return Ok(inherited);
     }
     let hop = first_wanted(hops);
     edits.push((block.clone()?, Some(hop)))?;
@@ -58,16 +58,16 @@ fn settle_held(
     block: &Path,
     hop: Option<u32>,
     hops: Option<&[Option<u32>]>,
-    handed: Option<u32>,
+    inherited: Option<u32>,
 ) -> Result<Option<u32>, AllocError>
-    ensures { IfOk result (λ passed. (passed ≡ passed_by hop (hops_from hops.entry) handed) × (edits.new.items ≡ edits.old.items ++ settled_held block.now hop (hops_from hops.entry) handed)) }
+    ensures { IfOk result (λ passed. (passed ≡ passed_by hop (hops_from hops.entry) inherited) × (edits.new.items ≡ edits.old.items ++ settled_held block.now hop (hops_from hops.entry) inherited)) }
 {
     if is_wanted(hops, hop) {
         return Ok(hop);
     }
-    if is_wanted(hops, handed) {
+    if is_wanted(hops, inherited) {
         edits.push((block.clone()?, None))?;
-        return Ok(handed);
+        return Ok(inherited);
     }
     let other = first_wanted(hops);
     edits.push((block.clone()?, Some(other)))?;
@@ -86,28 +86,28 @@ impl Plan {
         }
     }
 
-    /// Adds the edits of the block if it inherits the hop `handed`.
+    /// Adds the edits of the block if it inherits the hop `inherited`.
     pub(crate) fn carry(
         &self,
         block: &Path,
-        handed: Option<u32>,
+        inherited: Option<u32>,
         edits: &mut Vec<(Path, Option<Option<u32>>)>,
     ) -> Result<(), AllocError>
         requires { (w : ℕ) × (length block.now + w ≤ 128) × Fits w (tree_of self.now) }
-        ensures { OnOk result (edits.new.items ≡ edits.old.items ++ within block.now (edits_of (tree_of self.now) handed)) }
+        ensures { OnOk result (edits.new.items ≡ edits.old.items ++ within block.now (edits_of (tree_of self.now) inherited)) }
     {
         match self {
             Plan::Idle | Plan::One(_) => {
-                settle(edits, block, self.best(), handed)?;
+                settle(edits, block, self.best(), inherited)?;
                 Ok(())
             }
             Plan::Fork(_, low, high) => {
-                let passed = settle(edits, block, self.best(), handed)?;
+                let passed = settle(edits, block, self.best(), inherited)?;
                 low.carry(&block.extended(false), passed, edits)?;
                 high.carry(&block.extended(true), passed, edits)
             }
             Plan::Held(hop, plan) => {
-                let passed = settle_held(edits, block, *hop, plan.best(), handed)?;
+                let passed = settle_held(edits, block, *hop, plan.best(), inherited)?;
                 plan.carry(block, passed, edits)
             }
         }

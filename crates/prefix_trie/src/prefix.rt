@@ -8,7 +8,7 @@ ghost use Rattle.trie_core.specs.Prefixes.{prefix_bits, IsMasked};
 
 use ipnet::Net;
 use ipnet_addr::key::Key;
-use ipnet_addr::number::Number;
+use ipnet_addr::number::AddressInt;
 use trie_core::Path;
 
 /// A prefix: a bit pattern and a length, as in the Rust crate prefix-trie 0.10.1.
@@ -254,7 +254,7 @@ impl<R: Key> Prefix for (R, u8) {
     }
 }
 
-impl<N: Number> Prefix for Net<N> {
+impl<N: AddressInt> Prefix for Net<N> {
     type R = N;
 
     ghost bits = { λ n. bit_string (block_of N.family n) };

@@ -3,7 +3,7 @@ use crate::fault::{Fault, made};
 use crate::show::{answer, begin, bytes, end, ended, ended_with, line, lines, part};
 use ipnet::{IpAddr, Ipv4Addr};
 use route_feed::{Counted, Follower, follow, install, lead, shorten};
-use route_lines::{Command, Line, LineCutter, Reply, Update};
+use route_lines::{Command, FibUpdate, Line, LineCutter, Reply};
 use std::io::Stdin;
 
 /// The most bytes of output that are kept.
@@ -213,7 +213,7 @@ fn print_reply(rt: &HostRuntime, text: &[u8]) {
 }
 
 fn print_update(rt: &HostRuntime, text: &[u8]) {
-    if let Ok(update) = Update::read(text) {
+    if let Ok(update) = FibUpdate::read(text) {
         bytes(rt, update.print().as_slice());
     }
 }

@@ -227,7 +227,7 @@ fn pages(rt: &HostRuntime, table: &RouteTable) -> Result<(), Fault> {
 /// An index of a table of both families.
 fn index(rt: &HostRuntime, table: &RouteTable) -> Result<(), Fault> {
     begin(rt);
-    match ended(rt, HopIndex::of_table(rt.alloc(), table)) {
+    match ended(rt, HopIndex::from_table(rt.alloc(), table)) {
         Some(index) => answer_hops(rt, &index),
         None => Ok(()),
     }
@@ -261,7 +261,7 @@ fn index_of_hops(rt: &HostRuntime, routes: &RouteTable) -> Result<(), Fault> {
     let mut table = made(HopTable::new(rt.alloc()))?;
     store_hosts(&mut table)?;
     begin_with(rt, &mut table, routes)?;
-    match ended(rt, HopIndex::of_hops(rt.alloc(), &table)) {
+    match ended(rt, HopIndex::from_hop_table(rt.alloc(), &table)) {
         Some(index) => answer_hops(rt, &index),
         None => Ok(()),
     }
@@ -290,7 +290,7 @@ fn addresses() -> Result<[IpAddr; 4], Fault> {
 /// Lookups in an index, one by one and together.
 fn hops(rt: &HostRuntime, table: &RouteTable) -> Result<(), Fault> {
     let addrs = addresses()?;
-    let index = made(HopIndex::of_table(rt.alloc(), table))?;
+    let index = made(HopIndex::from_table(rt.alloc(), table))?;
     hops_of(rt, &index, &addrs)
 }
 

@@ -28,7 +28,7 @@ use Rattle.route_feed.specs.Steps.{flat_line}
 use Rattle.route_feed.specs.Streams.{Change, ends_well, committed, closings, painted, replies_in}
 use Rattle.route_feed.proofs.ReadNets.{piece_in_range}
 use Rattle.route_feed.proofs.Replies.{form_step}
-use Rattle.route_feed.proofs.Reread.{AreClean, AreTold, IsClean, IsKept, IsTold, Keeps, closing_is_clean, closing_is_kept, each-append, each-first, read_again, reread}
+use Rattle.route_feed.proofs.PrintedLines.{AreClean, AreTold, IsClean, IsKept, IsTold, Keeps, closing_is_clean, closing_is_kept, each-append, each-first, read_again, reread}
 use Rattle.route_feed.proofs.Values.{AreInRange, all_closed, empty_is_table, nothing_left, taken}
 
 -- ---- a beginning's lines

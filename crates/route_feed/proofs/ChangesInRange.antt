@@ -11,8 +11,8 @@ use Rattle.route_laws.specs.Tables.{Route}
 use Rattle.route_lines.specs.InnerPhrase.{Gives}
 use Rattle.route_lines.specs.Spelled.{note_of}
 use Rattle.route_lines.specs.Texts.{IsNote}
-use Rattle.route_lines.specs.declared.note.Note.{Note}
-use Rattle.route_lines.specs.declared.note.Note.TheVariants as N
+use Rattle.route_lines.specs.declared.fib_input.FibInput.{FibInput}
+use Rattle.route_lines.specs.declared.fib_input.FibInput.TheVariants as N
 use Rattle.route_lines.specs.declared.reply.Closing.{Closing}
 use Rattle.route_lines.specs.declared.reply.Reply.TheVariants as R
 use Rattle.route_lines.proofs.Spells.{note_found}
@@ -46,12 +46,12 @@ are_changes cs p = record {
 -- ---- what is read
 
 -- a route that is installed already, and a change
-abbrev pub NoteInRange : Note → Type 0
+abbrev pub NoteInRange : FibInput → Type 0
 NoteInRange (N.Have net hop) = IsBlock (block net) × IsHop hop
 NoteInRange N.Sync = Unit {0}
 NoteInRange (N.Reply line) = AreInRange (option_to_list (change_of line))
 
-read_in_range : (text : List ℕ) (note : Note) → IsNote text note → NoteInRange note
+read_in_range : (text : List ℕ) (note : FibInput) → IsNote text note → NoteInRange note
 read_in_range text (N.Have net hop) h = (net_is_block h.phrase.front net h.phrase.first, hop_is_hop h.phrase.back hop h.phrase.second)
 read_in_range text N.Sync h = tt
 read_in_range text (N.Reply (R.Set net number)) h = ((net_is_block h.phrase.front net h.phrase.first, omega (arith, h.phrase.second.2)), tt)
@@ -62,14 +62,14 @@ read_in_range text (N.Reply (R.Own net)) h = tt
 read_in_range text (N.Reply (R.Count v4 v6)) h = tt
 read_in_range text (N.Reply (R.Close closing)) h = tt
 
-pub note_in_range : (text : List ℕ) (note : Note) → note_of text ≡ Some note → NoteInRange note
+pub note_in_range : (text : List ℕ) (note : FibInput) → note_of text ≡ Some note → NoteInRange note
 note_in_range text note e = read_in_range text note (subst (Gives IsNote text) e (note_found text))
 
 pending_in_range : (cs : List Change) (o : Option Closing) (c : Option Change) → AreInRange cs → AreInRange (option_to_list c) → AreInRange (pending_after cs o c)
 pending_in_range cs None c p q = in_range-append cs (option_to_list c) p q
 pending_in_range cs (Some closing) c p q = tt
 
-pub past_in_range : (cs : List Change) (note : Note) → AreInRange cs → NoteInRange note → AreInRange (pending_past cs note)
+pub past_in_range : (cs : List Change) (note : FibInput) → AreInRange cs → NoteInRange note → AreInRange (pending_past cs note)
 past_in_range cs (N.Have net hop) p q = p
 past_in_range cs N.Sync p q = p
 past_in_range cs (N.Reply line) p q = pending_in_range cs (closes line) (change_of line) p q

@@ -3,8 +3,8 @@ use Rattle.std.proofs.Common.{◌≡◌, ◌⊎◌, suc, ◌+◌, Bool, true, fa
 use Rattle.std.proofs.lemmas.List.{length-append}
 use Rattle.std.proofs.lemmas.List.Elements.{filter-append}
 use Rattle.ipnet_addr.proofs.Members.{In, In-cases}
-use Rattle.route_lines.specs.declared.update.Update.{Update}
-use Rattle.route_lines.specs.declared.update.Update.TheVariants as U
+use Rattle.route_lines.specs.declared.fib_update.FibUpdate.{FibUpdate}
+use Rattle.route_lines.specs.declared.fib_update.FibUpdate.TheVariants as U
 use Rattle.route_laws.specs.Operations.{Operation, Install, Remove}
 use Rattle.route_laws.specs.Runs.{Event, Have, Told, Sync, Installer, MayAllCome, after_event, after_events, gives, with_haves}
 use Rattle.route_laws.specs.Tables.{Route, with_route}
@@ -13,8 +13,8 @@ use Rattle.route_feed.specs.InstallLaws.{is_operation, oks}
 use Rattle.route_feed.proofs.KeptTable.{one_event}
 use Rattle.route_feed.proofs.NotesInTurn.{kept_stays, lines-append}
 
-pub oks-append : (us vs : List Update) → oks (us ++ vs) ≡ oks us + oks vs
-oks-append us vs = ap length (filter-append (λ (u : Update). not (is_operation u)) us vs) ∙ length-append (filter (λ (u : Update). not (is_operation u)) us) (filter (λ (u : Update). not (is_operation u)) vs)
+pub oks-append : (us vs : List FibUpdate) → oks (us ++ vs) ≡ oks us + oks vs
+oks-append us vs = ap length (filter-append (λ (u : FibUpdate). not (is_operation u)) us vs) ∙ length-append (filter (λ (u : FibUpdate). not (is_operation u)) us) (filter (λ (u : FibUpdate). not (is_operation u)) vs)
 
 no_oks : (os : List Operation) → oks (map operation_line os) ≡ 0
 no_oks [] = refl
@@ -59,14 +59,14 @@ haves-append (Sync N ∷ es) fs M = haves-append es fs M
 -- ---- where it ends
 
 -- lines that are whole batches, up to some note, and then operations of the next one
-pub record Cut (s : Installing) (ns : List Noted) (us : List Update) : Type 0 where
+pub record Cut (s : Installing) (ns : List Noted) (us : List FibUpdate) : Type 0 where
   pub before : List Noted
   pub later : List Noted
   pub is : ns ≡ before ++ later
-  pub begun : List Update
+  pub begun : List FibUpdate
   pub lines : us ≡ update_lines s.tables (events s before) ++ begun
   pub open_batch : oks begun ≡ 0
-  pub part : (begun ≡ []) ⊎ ((n : Noted) × (more : List Noted) × (tail : List Update) × (later ≡ n ∷ more)
+  pub part : (begun ≡ []) ⊎ ((n : Noted) × (more : List Noted) × (tail : List FibUpdate) × (later ≡ n ∷ more)
       × (update_lines (Installing.tables (after_notes s before)) (event_of (after_notes s before) n.note n.table) ≡ begun ++ tail))
 
 -- one list begins another, or the other way round
@@ -84,7 +84,7 @@ begins (u ∷ us) rest (v ∷ vs) ws e =
     begins_more u v us rest vs ws (let first : u ≡ v = cc in first) (begins us rest vs ws (let more : us ++ rest ≡ vs ++ ws = cc in more))
 
 -- before the `ok` of a batch there are its operations alone
-open_lines : (os : List Operation) (us : List Update) (t : Update) (tail : List Update) → map operation_line os ++ U.Done ∷ [] ≡ us ++ t ∷ tail → oks us ≡ 0
+open_lines : (os : List Operation) (us : List FibUpdate) (t : FibUpdate) (tail : List FibUpdate) → map operation_line os ++ U.Done ∷ [] ≡ us ++ t ∷ tail → oks us ≡ 0
 open_lines os [] t tail e = refl
 open_lines [] (u ∷ []) t tail e = absurd (let none : [] ≡ t ∷ tail = cc in cc)
 open_lines [] (u ∷ v ∷ us) t tail e = absurd (let none : [] ≡ v ∷ (us ++ t ∷ tail) = cc in cc)
@@ -101,20 +101,20 @@ not_empty : {A : Type 0} (us : List A) (t : A) (tail : List A) → [] ≡ us ++ 
 not_empty [] t tail e = cc
 not_empty (u ∷ us) t tail e = cc
 
-event_open : (s : Installer) (e : Event) (us : List Update) (t : Update) (tail : List Update) → event_lines s e ≡ us ++ t ∷ tail → oks us ≡ 0
+event_open : (s : Installer) (e : Event) (us : List FibUpdate) (t : FibUpdate) (tail : List FibUpdate) → event_lines s e ≡ us ++ t ∷ tail → oks us ≡ 0
 event_open s e us t tail h = go (Installer.kept (after_event s e)) h
   where
     go : (b : Bool) → cond b (map operation_line (gives s e) ++ U.Done ∷ []) [] ≡ us ++ t ∷ tail → oks us ≡ 0
     go true k = open_lines (gives s e) us t tail k
     go false k = absurd (not_empty us t tail k)
 
-note_open : (s : Installing) (n : Noted) (us : List Update) (t : Update) (tail : List Update) → update_lines s.tables (event_of s n.note n.table) ≡ us ++ t ∷ tail → oks us ≡ 0
+note_open : (s : Installing) (n : Noted) (us : List FibUpdate) (t : FibUpdate) (tail : List FibUpdate) → update_lines s.tables (event_of s n.note n.table) ≡ us ++ t ∷ tail → oks us ≡ 0
 note_open s n us t tail h = ⊎_elim
     (λ none. absurd (not_empty us t tail (sym (ap (update_lines s.tables) none) ∙ h)))
     (λ o. event_open s.tables o.0 us t tail (sym (append-nil (event_lines s.tables o.0)) ∙ sym (ap (update_lines s.tables) o.1) ∙ h))
     (one_event s n.note n.table)
 
-pub where_cut : (ns : List Noted) (s : Installing) (us rest : List Update) → us ++ rest ≡ update_lines s.tables (events s ns) → Cut s ns us
+pub where_cut : (ns : List Noted) (s : Installing) (us rest : List FibUpdate) → us ++ rest ≡ update_lines s.tables (events s ns) → Cut s ns us
 where_cut [] s [] rest e = record { before = []; later = []; is = refl; begun = []; lines = refl; open_batch = refl; part = inl refl }
 where_cut [] s (u ∷ us) rest e = absurd (cc)
 where_cut (n ∷ ns) s us rest e =

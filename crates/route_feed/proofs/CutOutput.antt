@@ -10,8 +10,8 @@ use Rattle.ipnet_addr.proofs.Ascending.{In-from_Contains}
 use Rattle.route_lines.specs.Bytes.{lines}
 use Rattle.route_lines.specs.Spelled.{update_of}
 use Rattle.route_lines.specs.declared.reply.Reply.{Reply}
-use Rattle.route_lines.specs.declared.update.Update.{Update}
-use Rattle.route_lines.specs.declared.update.Update.TheVariants as U
+use Rattle.route_lines.specs.declared.fib_update.FibUpdate.{FibUpdate}
+use Rattle.route_lines.specs.declared.fib_update.FibUpdate.TheVariants as U
 use Rattle.route_laws.specs.Networks.{routes_of}
 use Rattle.route_laws.specs.Operations.{Operation, after_all}
 use Rattle.route_laws.specs.Runs.{Event, Installer, MayAllCome, after_events, given, haves, start}
@@ -48,7 +48,7 @@ one_closing (Some l) = go (is_some (closes l))
     go true = inr refl
     go false = inl refl
 
-no_ok_in : (us : List Update) → oks us ≡ 0 → In U.Done us → ⊥
+no_ok_in : (us : List FibUpdate) → oks us ≡ 0 → In U.Done us → ⊥
 no_ok_in [] e i = i
 no_ok_in (U.Install net hop ∷ us) e (inl same) = cc
 no_ok_in (U.Install net hop ∷ us) e (inr i) = no_ok_in us e i
@@ -69,7 +69,7 @@ module _ (bytes : List ℕ) (refusals : List Bool) where
       (λ z. inr (e ∙ ap (λ k. hop_at (routes_of (table_at bytes refusals k)) x) (let more : closings (replies_of (before ++ n ∷ [])) ≡ suc (closings (replies_of before)) = omega (arith, sum, z) in more)))
       (one_closing (reply_in n.note))
 
-  module _ (ns : List Noted) (first : AreFirst bytes refusals (replies_of ns)) (may : MayAllCome start (events begin ns)) (us : List Update) (c : Cut begin ns us) (has : In U.Done us) where
+  module _ (ns : List Noted) (first : AreFirst bytes refusals (replies_of ns)) (may : MayAllCome start (events begin ns)) (us : List FibUpdate) (c : Cut begin ns us) (has : In U.Done us) where
     abbrev at : Installing
     at = after_notes begin c.before
 

@@ -7,8 +7,8 @@ use Rattle.ipnet_blocks.specs.Blocks.{Block, host, is_before, is_inside, same_bl
 use Rattle.ipnet.specs.IpNets.{block}
 use Rattle.route_choices.specs.Choices.{default_preference}
 use Rattle.route_choices.proofs.Kept.{filter_map_swap, map_append}
-use Rattle.route_lines.specs.declared.update.Update.{Update}
-use Rattle.route_lines.specs.declared.update.Update.TheVariants as U
+use Rattle.route_lines.specs.declared.fib_update.FibUpdate.{FibUpdate}
+use Rattle.route_lines.specs.declared.fib_update.FibUpdate.TheVariants as U
 use Rattle.route_laws.specs.Operations.{Operation, Install, Remove, after_all, between}
 use Rattle.route_laws.specs.Runs.{Event, Have, Told, Sync, Installer, after_event, given, gives, start}
 use Rattle.route_laws.specs.Tables.{Route, covering, hop_at, longer, longest, match_number, match_of, route_of, with_route, without_block}
@@ -54,7 +54,7 @@ output_is_given ns = lines_operations start (events begin ns)
 -- ---- lines carried out
 
 -- `ok` changes nothing
-pub only_operations : (M : List Route) (us : List Update) → carried_out M us ≡ carried_out M (filter is_operation us)
+pub only_operations : (M : List Route) (us : List FibUpdate) → carried_out M us ≡ carried_out M (filter is_operation us)
 only_operations M [] = refl
 only_operations M (U.Install net hop ∷ us) = only_operations (with_route M (route_of net hop default_preference)) us
 only_operations M (U.Remove net ∷ us) = only_operations (without_block M (block net)) us
@@ -76,7 +76,7 @@ unfolding plain
 plain_without M b = filter_map_swap plain (λ (s : Route). not (same_block s.block b)) M
 
 -- lines give no preferences
-plain_carried : (us : List Update) (M : List Route) → map plain (carried_out M us) ≡ carried_out (map plain M) us
+plain_carried : (us : List FibUpdate) (M : List Route) → map plain (carried_out M us) ≡ carried_out (map plain M) us
 unfolding plain
 plain_carried [] M = refl
 plain_carried (U.Install net hop ∷ us) M = plain_carried us (with_route M (route_of net hop default_preference)) ∙ ap (λ T. carried_out T us) (sym (plain_with M (route_of net hop default_preference)))
@@ -139,7 +139,7 @@ first_of_map f (x ∷ xs) (y ∷ ys) zs e =
     ap (λ z. z ∷ ys) first ∙ ap (λ l. f x ∷ l) (first_of_map f xs ys zs rest)
 
 -- of the first lines of these events
-pub first_carried : (M : List Route) (es : List Event) (us later : List Update) → update_lines start es ≡ us ++ later → (x : Address)
+pub first_carried : (M : List Route) (es : List Event) (us later : List FibUpdate) → update_lines start es ≡ us ++ later → (x : Address)
     → hop_at (carried_out M us) x ≡ hop_at (after_all M (take (length (filter is_operation us)) (given start es))) x
 first_carried M es us later e x =
     let whole = sym (filter-append is_operation us later) ∙ ap (filter is_operation) (sym e) ∙ lines_operations start es in

@@ -29,7 +29,7 @@ use Rattle.route_feed.specs.Replies.{printed}
 use Rattle.route_feed.specs.InnerReplies.{choice_line, own_line}
 use Rattle.route_feed.specs.Steps as steps
 use Rattle.route_feed.proofs.Beginnings.{all_in_range, commands_of, first_lines, replies_clean}
-use Rattle.route_feed.proofs.Reread.{AreClean, AreTold, IsSmall, first_line}
+use Rattle.route_feed.proofs.PrintedLines.{AreClean, AreTold, IsSmall, first_line}
 use Rattle.route_feed.proofs.ReadLines.{of_replies, read_is}
 use Rattle.route_feed.proofs.Replies.{form_step}
 use Rattle.route_feed.proofs.Values.{AreInRange, empty_is_table}

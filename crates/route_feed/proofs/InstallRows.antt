@@ -9,11 +9,11 @@ use Rattle.route_choices.specs.declared.hop.Hop.{Hop}
 use Rattle.route_choices.specs.declared.hop.Hop.TheVariants.{Number, Drop}
 use Rattle.route_choices.specs.Hops.{IsHop}
 use Rattle.route_lines.specs.declared.command.Command.TheVariants.{Add, Del}
-use Rattle.route_lines.specs.declared.note.Note.{Note}
-use Rattle.route_lines.specs.declared.note.Note.TheVariants as N
+use Rattle.route_lines.specs.declared.fib_input.FibInput.{FibInput}
+use Rattle.route_lines.specs.declared.fib_input.FibInput.TheVariants as N
 use Rattle.route_lines.specs.declared.reply.Closing.TheVariants.{Done}
 use Rattle.route_lines.specs.declared.reply.Reply.TheVariants.{Set, Unset, Close}
-use Rattle.route_lines.specs.declared.update.Update.TheVariants as U
+use Rattle.route_lines.specs.declared.fib_update.FibUpdate.TheVariants as U
 use Rattle.route_laws.specs.LeastTables.{HasHops, IsLeast}
 use Rattle.route_laws.specs.Networks.{routes_of}
 use Rattle.route_laws.specs.Nearest.{IsNearest}
@@ -55,7 +55,7 @@ two = route 8 10 (Number 1) ∷ route 9 20 (Number 2) ∷ []
 abbrev three : List Route
 three = route 8 10 (Number 1) ∷ route 9 20 (Number 2) ∷ route 9 21 Drop ∷ []
 
-abbrev noted : Note → Noted
+abbrev noted : FibInput → Noted
 noted note = record { note = note; table = [] }
 
 -- have 10.0.0.0/8 3; set 10.0.0.0/8 1; ok; sync; set 10.0.0.0/9 2; ok

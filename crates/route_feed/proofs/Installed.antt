@@ -12,9 +12,9 @@ use Rattle.route_lines.specs.Lines.{line_of, lines_in}
 use Rattle.route_lines.specs.Spelled.{note_of}
 use Rattle.route_lines.specs.declared.cutter.Line.{Line}
 use Rattle.route_lines.specs.declared.cutter.Rest.{Rest}
-use Rattle.route_lines.specs.declared.note.Note.{Note}
-use Rattle.route_lines.specs.declared.note.Note.TheVariants as N
-use Rattle.route_lines.specs.declared.update.Update.{Update}
+use Rattle.route_lines.specs.declared.fib_input.FibInput.{FibInput}
+use Rattle.route_lines.specs.declared.fib_input.FibInput.TheVariants as N
+use Rattle.route_lines.specs.declared.fib_update.FibUpdate.{FibUpdate}
 use Rattle.route_feed.specs.declared.counted.Counted.{Counted}
 use Rattle.route_feed.specs.declared.error.RunError.{RunError}
 use Rattle.route_feed.specs.declared.error.RunError.TheVariants as Why
@@ -49,7 +49,7 @@ fit-back : (s : Installer) (es fs : List Event) → AllFit s (es ++ fs) → AllF
 fit-back s [] fs p = p
 fit-back s (e ∷ es) fs p = fit-back (after_event s e) es fs p.1
 
-printed-append : (us vs : List Update) → printed_updates (us ++ vs) ≡ printed_updates us ++ printed_updates vs
+printed-append : (us vs : List FibUpdate) → printed_updates (us ++ vs) ≡ printed_updates us ++ printed_updates vs
 printed-append us vs = flat_map-append update_line us vs
 
 one_if : (b : Bool) (x y z : ℕ) → x ≡ y + z → cond b (suc x) x ≡ cond b (suc y) y + z
@@ -73,7 +73,7 @@ waits_plus (suc m) n w =
 -- ---- what may come
 
 -- the events of one note
-note_may : (a : Installing) (note : Note) (L : List Route) → AreInRange a.pending → NoteInRange note → AllFit a.tables (event_of a note L) → MayAllCome a.tables (event_of a note L)
+note_may : (a : Installing) (note : FibInput) (L : List Route) → AreInRange a.pending → NoteInRange note → AllFit a.tables (event_of a note L) → MayAllCome a.tables (event_of a note L)
 note_may a (N.Have net hop) L p q f = ((f.0, q.0, q.1), tt)
 note_may a N.Sync L p q f = f
 note_may a (N.Reply line) L p q f = go (option_map_or is_done (closes line) false) f
@@ -178,7 +178,7 @@ module _ {W : Type 0} (contents : W → Option (List ℕ)) where
   line_taken : (a b : Installing) (p : List ℕ) (old new : Counted W) → TakesNoteLine contents a (line_of p) old (Ok tt) b new → (n : Noted) × (note_of p ≡ Some n.note) × Takes contents a b n old new
   line_taken a b p old new t = go (note_of p) refl (subst (λ o. MatchOption o (TakesNone contents old (Ok tt) new) (λ note. TakesNote contents a note old (Ok tt) b new)) (piece_spells of_notes p) t)
     where
-      go : (o : Option Note) → note_of p ≡ o → MatchOption o (TakesNone contents old (Ok tt) new) (λ note. TakesNote contents a note old (Ok tt) b new) → (n : Noted) × (note_of p ≡ Some n.note) × Takes contents a b n old new
+      go : (o : Option FibInput) → note_of p ≡ o → MatchOption o (TakesNone contents old (Ok tt) new) (λ note. TakesNote contents a note old (Ok tt) b new) → (n : Noted) × (note_of p ≡ Some n.note) × Takes contents a b n old new
       go None e m = absurd (let f = m.0 in cc)
       go (Some note) e m = (record { note = note; table = m.0 }, e, m.1)
 
@@ -252,25 +252,25 @@ module _ {W : Type 0} (contents : W → Option (List ℕ)) where
 
 -- what comes of a line that was not taken
 module _ {W : Type 0} (contents : W → Option (List ℕ)) (c last : Installing) (p : List ℕ) (mid new : Counted W) where
-  abbrev Why_not : RunError → Option Note → Type 0
+  abbrev Why_not : RunError → Option FibInput → Type 0
   Why_not e o = MatchOption o (TakesNone contents mid (Err e) new) (λ note. TakesNote contents c note mid (Err e) last new)
 
   why_not : (e : RunError) → TakesNoteLine contents c (line_of p) mid (Err e) last new → Why_not e (note_of p)
   why_not e t = subst (Why_not e) (piece_spells of_notes p) t
 
-  unfit : (o : Option Note) → Why_not Why.Line o → IsUnfit c o × (new ≡ mid)
+  unfit : (o : Option FibInput) → Why_not Why.Line o → IsUnfit c o × (new ≡ mid)
   unfit None w = (tt, w.1)
   unfit (Some note) w = w
 
-  wanting : (o : Option Note) → Why_not Why.Memory o → (note : Note) × (o ≡ Some note) × MayWant c note × (new ≡ mid)
+  wanting : (o : Option FibInput) → Why_not Why.Memory o → (note : FibInput) × (o ≡ Some note) × MayWant c note × (new ≡ mid)
   wanting None w = absurd (let e = w.0 in cc)
   wanting (Some note) w = (note, refl, w.0, w.1)
 
-  failing : (o : Option Note) → Why_not Why.Write o → (n : Noted) × (o ≡ Some n.note) × Fails contents c n mid new
+  failing : (o : Option FibInput) → Why_not Why.Write o → (n : Noted) × (o ≡ Some n.note) × Fails contents c n mid new
   failing None w = absurd (let e = w.0 in cc)
   failing (Some note) w = (record { note = note; table = w.0 }, refl, w.1)
 
-  never : (o : Option Note) → Why_not Why.Read o → ⊥
+  never : (o : Option FibInput) → Why_not Why.Read o → ⊥
   never None w = let e = w.0 in cc
   never (Some note) w = w
 

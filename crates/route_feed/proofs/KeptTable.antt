@@ -6,8 +6,8 @@ use Rattle.ipnet_addr.specs.Addresses.{Address, IsAddress}
 use Rattle.ipnet.specs.declared.ip_net.IpNet.{IpNet}
 use Rattle.route_choices.specs.Choices.{default_preference}
 use Rattle.route_choices.specs.declared.hop.Hop.{Hop}
-use Rattle.route_lines.specs.declared.note.Note.{Note}
-use Rattle.route_lines.specs.declared.note.Note.TheVariants as N
+use Rattle.route_lines.specs.declared.fib_input.FibInput.{FibInput}
+use Rattle.route_lines.specs.declared.fib_input.FibInput.TheVariants as N
 use Rattle.route_lines.specs.declared.reply.Closing.TheVariants.{Done, Missing, Bad, Refused}
 use Rattle.route_lines.specs.declared.reply.Reply.{Reply}
 use Rattle.route_lines.specs.declared.reply.Reply.TheVariants as R
@@ -83,7 +83,7 @@ ok_or_quiet (R.Close Refused) = inr refl
 
 -- what holds of the event of a note, which is one at most
 module _ (P : Event → Type 0) (s : Installing) (M : List Route) where
-  event_is : (note : Note) → ((net : IpNet) (hop : Hop) → note ≡ N.Have net hop → P (Have (route_of net hop default_preference))) → P (Sync M)
+  event_is : (note : FibInput) → ((net : IpNet) (hop : Hop) → note ≡ N.Have net hop → P (Have (route_of net hop default_preference))) → P (Sync M)
       → (note ≡ N.Reply (R.Close Done) → P (Told (map route_to s.pending) M)) → AtMostOne P (event_of s note M)
   event_is (N.Have net hop) have sync ok = inr (Have (route_of net hop default_preference), refl, have net hop refl)
   event_is N.Sync have sync ok = inr (Sync M, refl, sync)
@@ -92,7 +92,7 @@ module _ (P : Event → Type 0) (s : Installing) (M : List Route) where
       (λ e. inl (ap (λ b. cond b (committing s.pending M) []) e))
       (ok_or_quiet line)
 
-pub one_event : (s : Installing) (note : Note) (M : List Route) → AtMostOne (λ e. Unit {0}) (event_of s note M)
+pub one_event : (s : Installing) (note : FibInput) (M : List Route) → AtMostOne (λ e. Unit {0}) (event_of s note M)
 one_event s note M = event_is (λ e. Unit {0}) s M note (λ net hop e. tt) tt (λ e. tt)
 
 module _ (ns later : List Noted) (n : Noted) where
@@ -140,7 +140,7 @@ made_is_installed s (Have r) other made = absurd (other r refl)
 made_is_installed s (Told rs N) other made = made
 made_is_installed s (Sync N) other made = made
 
-no_route : (s : Installing) (note : Note) (M : List Route) → IsNoHave note → AtMostOne IsNoRoute (event_of s note M)
+no_route : (s : Installing) (note : FibInput) (M : List Route) → IsNoHave note → AtMostOne IsNoRoute (event_of s note M)
 no_route s note M other = event_is IsNoRoute s M note (λ net hop e. absurd (other net hop e)) (λ r e. cc) (λ e r f. cc)
 
 module _ (ns : List Noted) (n : Noted) (may : MayAllCome start (events begin (ns ++ n ∷ []))) where
@@ -172,7 +172,7 @@ first_too bytes refusals ns later first =
 kept_no_have : (ns : List Noted) (n : Noted) → MayAllCome start (events begin (ns ++ n ∷ [])) → Installer.kept (after_events start (events begin ns)) ≡ true → IsNoHave n.note
 kept_no_have ns n may kept net hop e =
     let m = (may_split start (es ns [] n) (now ns [] n) (may_now ns [] n may)).1 in
-    let k = (subst (λ (note : Note). MayAllCome (after_events start (es ns [] n)) (event_of (at ns [] n) note n.table)) e m).0.0 in
+    let k = (subst (λ (note : FibInput). MayAllCome (after_events start (es ns [] n)) (event_of (at ns [] n) note n.table)) e m).0.0 in
     let both = sym k ∙ kept in
     cc
 

@@ -5,8 +5,8 @@ use Rattle.std.specs.List.{cons_option, filter_map}
 use Rattle.std.proofs.lemmas.List.Elements.{All-weaker}
 use Rattle.route_lines.specs.Bytes.{lines}
 use Rattle.route_lines.specs.Spelled.{note_of, reply_of}
-use Rattle.route_lines.specs.declared.note.Note.{Note}
-use Rattle.route_lines.specs.declared.note.Note.TheVariants as N
+use Rattle.route_lines.specs.declared.fib_input.FibInput.{FibInput}
+use Rattle.route_lines.specs.declared.fib_input.FibInput.TheVariants as N
 use Rattle.route_lines.specs.declared.reply.Reply.{Reply}
 use Rattle.route_lines.proofs.Notes.{replies}
 use Rattle.route_laws.specs.Networks.{routes_of}
@@ -21,7 +21,7 @@ use Rattle.route_feed.proofs.KeptTable.{installed_agrees}
 use Rattle.route_feed.proofs.SpelledLines.{output_reads_back}
 
 -- a text that spells a note is the reply line of it, or none
-line_of_note : (text : List ℕ) (note : Note) → note_of text ≡ Some note → reply_of text ≡ reply_in note
+line_of_note : (text : List ℕ) (note : FibInput) → note_of text ≡ Some note → reply_of text ≡ reply_in note
 line_of_note text (N.Reply r) e = (replies text r).0 e
 line_of_note text (N.Have net hop) e = go (reply_of text) refl
   where

@@ -6,7 +6,7 @@ use Rattle.ipnet_addr.specs.Addresses.{Address}
 use Rattle.route_laws.specs.Operations.{IsHitless, Operation, after_all}
 use Rattle.route_laws.specs.Tables.{Route, hop_at}
 use Rattle.route_feed.specs.InstallLaws.{HitlessIsTurnsOnce, TurnsOnce}
-use Rattle.route_feed.proofs.Told.{same_or_not}
+use Rattle.route_feed.proofs.AnsweredChanges.{same_or_not}
 
 module _ (M : List Route) (os : List Operation) (x : Address) where
   abbrev at : ℕ → Option ℕ

@@ -3,8 +3,8 @@ use Rattle.std.proofs.Common.{◌≡◌, true, List, [], ◌∷◌, ◌++◌, in
 use Rattle.std.proofs.lemmas.List.Elements.{filter_map-append}
 use Rattle.ipnet_addr.proofs.Members.{In}
 use Rattle.ipnet_addr.proofs.Ascending.{In-from_Any}
-use Rattle.route_lines.specs.declared.note.Note.{Note}
-use Rattle.route_lines.specs.declared.note.Note.TheVariants as N
+use Rattle.route_lines.specs.declared.fib_input.FibInput.{FibInput}
+use Rattle.route_lines.specs.declared.fib_input.FibInput.TheVariants as N
 use Rattle.route_laws.specs.Runs.{Event, Have, Told, Sync, Installer, MayAllCome, after_event, after_events, start}
 use Rattle.route_feed.specs.Installing.{Installing, Noted, after_note, after_notes, begin, event_lines, event_of, events, update_lines}
 use Rattle.route_feed.proofs.InTurn.{after-append, made-append}
@@ -46,7 +46,7 @@ kept_later s es fs k = ap Installer.kept (after_events-append s es fs) ∙ kept_
 sync_keeps : (ns : List Noted) (s : Installing) (n : Noted) → In n ns → n.note ≡ N.Sync → Installer.kept (after_events s.tables (events s ns)) ≡ true
 sync_keeps [] s n i e = absurd i
 sync_keeps (m ∷ ns) s n (inl same) e =
-    let is : event_of s m.note m.table ≡ Sync m.table ∷ [] = ap (λ (note : Note). event_of s note m.table) (sym (ap Noted.note same) ∙ e) in
+    let is : event_of s m.note m.table ≡ Sync m.table ∷ [] = ap (λ (note : FibInput). event_of s note m.table) (sym (ap Noted.note same) ∙ e) in
     subst (λ es. Installer.kept (after_events s.tables (es ++ events (after_note s m) ns)) ≡ true) (sym is) (kept_stays (events (after_note s m) ns) _ refl)
 sync_keeps (m ∷ ns) s n (inr i) e =
     ap Installer.kept (after_events-append s.tables (event_of s m.note m.table) (events (after_note s m) ns)) ∙ sync_keeps ns (after_note s m) n i e

@@ -30,12 +30,12 @@ use Rattle.route_feed.specs.Streams.{committed, painted, replies_in}
 use Rattle.route_feed.specs.InnerLines.{add_command}
 use Rattle.route_feed.proofs.Beginnings.{beginnings_agree}
 use Rattle.route_feed.proofs.Values.{empty_is_table}
-use Rattle.route_feed.proofs.Adding.{line_is}
+use Rattle.route_feed.proofs.WriteRoutes.{line_is}
 use Rattle.route_feed.proofs.Owned.{map_twice}
-use Rattle.route_feed.proofs.Reread.{first_line, is_cut, word_hop}
+use Rattle.route_feed.proofs.PrintedLines.{first_line, is_cut, word_hop}
 use Rattle.route_feed.proofs.ReadLines.{of_commands, read_is}
 use Rattle.route_feed.proofs.Splits.{rest_after}
-use Rattle.route_feed.proofs.Told.{plain_step}
+use Rattle.route_feed.proofs.AnsweredChanges.{plain_step}
 
 -- ---- the lines
 

@@ -32,8 +32,8 @@ use Rattle.route_feed.specs.Steps.{Answer, closed, told, change_line, change_lin
 use Rattle.route_feed.specs.Streams.{Change, change_of, is_done, painted_over}
 use Rattle.route_feed.specs.InnerReplies.{choice_line, own_line}
 use Rattle.route_feed.specs.Laws.{IsInRange}
-use Rattle.route_feed.proofs.Reread.{IsTold, AreTold, AreTold-map, route_told, piece_told, change_told, count_told, own_told}
-use Rattle.route_feed.proofs.Seam.{changes_in, change_painted}
+use Rattle.route_feed.proofs.PrintedLines.{IsTold, AreTold, AreTold-map, route_told, piece_told, change_told, count_told, own_told}
+use Rattle.route_feed.proofs.ReplyPaints.{changes_in, change_painted}
 
 -- the changes of lines that this one closes
 abbrev pub gain : List Reply → Closing → List Change

@@ -9,7 +9,7 @@ use Rattle.route_laws.specs.Networks.{routes_of}
 use Rattle.route_laws.specs.Tables.{Route, IsTable, hop_at}
 use Rattle.route_laws.proofs.Insides.{Sound, table_of}
 use Rattle.ipnet.specs.IpNets.{network_at}
-use Rattle.route_lines.specs.declared.note.Note.TheVariants as N
+use Rattle.route_lines.specs.declared.fib_input.FibInput.TheVariants as N
 use Rattle.route_lines.specs.declared.reply.Closing.TheVariants.{Done}
 use Rattle.route_lines.specs.declared.reply.Reply.TheVariants as R
 use Rattle.route_feed.specs.AddLines.{add_lines}

@@ -23,7 +23,7 @@ use Rattle.route_feed.specs.Laws.{flat_bytes}
 use Rattle.route_feed.specs.Steps.{flat_line}
 use Rattle.route_feed.specs.Streams.{replies_in}
 use Rattle.route_feed.proofs.ReadLines.{of_replies, read_is}
-use Rattle.route_feed.proofs.Reread.{IsClean, AreClean, closing_is_clean, closing_read, piece_told, read_again, reread}
+use Rattle.route_feed.proofs.PrintedLines.{IsClean, AreClean, closing_is_clean, closing_read, piece_told, read_again, reread}
 
 -- a line that is read as it was printed
 record IsRead (l : Reply) : Type 0 where

@@ -12,8 +12,8 @@ use Rattle.route_choices.proofs.Kept.{In-from_filter, In-map}
 use Rattle.route_lines.specs.Bytes.{lines}
 use Rattle.route_lines.specs.Spelled.{update_of}
 use Rattle.route_lines.specs.Texts.{IsUpdate, update_text}
-use Rattle.route_lines.specs.declared.update.Update.{Update}
-use Rattle.route_lines.specs.declared.update.Update.TheVariants as U
+use Rattle.route_lines.specs.declared.fib_update.FibUpdate.{FibUpdate}
+use Rattle.route_lines.specs.declared.fib_update.FibUpdate.TheVariants as U
 use Rattle.route_lines.proofs.Updates.{updates, prints}
 use Rattle.route_laws.specs.Operations.{Operation, Install, Remove, between, missing, surplus}
 use Rattle.route_laws.specs.Runs.{Event, Have, Told, Sync, Installer, MayCome, MayAllCome, after_event, after_events, gives, start}
@@ -26,26 +26,26 @@ use Rattle.route_feed.proofs.Beginnings.{first_lines}
 use Rattle.route_feed.proofs.GivenLines.{first_carried}
 use Rattle.route_feed.proofs.NotesInTurn.{after_events-append, may_split}
 use Rattle.route_feed.proofs.ReadLines.{of_updates, read_is}
-use Rattle.route_feed.proofs.Reread.{first_line, is_cut, word_hop}
+use Rattle.route_feed.proofs.PrintedLines.{first_line, is_cut, word_hop}
 
 -- ---- lines that spell what they print
 
-abbrev pub AreSpelled : List Update → Type 0
+abbrev pub AreSpelled : List FibUpdate → Type 0
 AreSpelled [] = Unit {0}
 AreSpelled (u ∷ us) = IsUpdate (update_text u) u × AreSpelled us
 
-AreSpelled-append : (us vs : List Update) → AreSpelled us → AreSpelled vs → AreSpelled (us ++ vs)
+AreSpelled-append : (us vs : List FibUpdate) → AreSpelled us → AreSpelled vs → AreSpelled (us ++ vs)
 AreSpelled-append [] vs p q = q
 AreSpelled-append (u ∷ us) vs p q = (p.0, AreSpelled-append us vs p.1 q)
 
-updates_read : (us : List Update) → AreSpelled us → updates_in (printed_updates us) ≡ us
+updates_read : (us : List FibUpdate) → AreSpelled us → updates_in (printed_updates us) ≡ us
 updates_read [] s = refl
 updates_read (u ∷ us) s =
     let text = update_text u in
     ap updates_in (append_assoc text (10 ∷ []) (printed_updates us))
     ∙ ap (filter_map update_of) (first_line text (printed_updates us) (recursion_from_All (λ c. c ≢ 10) text (updates.clean text u s.0)))
     ∙ filter_map-append update_of (text ∷ []) (lines (printed_updates us))
-    ∙ ap (λ o. filter_map (λ (p : Option Update). p) (o ∷ []) ++ updates_in (printed_updates us)) (read_is of_updates text u s.0)
+    ∙ ap (λ o. filter_map (λ (p : Option FibUpdate). p) (o ∷ []) ++ updates_in (printed_updates us)) (read_is of_updates text u s.0)
     ∙ ap (λ vs. u ∷ vs) (updates_read us s.1)
 
 -- ---- operations of networks and hops

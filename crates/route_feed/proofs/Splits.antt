@@ -6,7 +6,7 @@ use Rattle.std.proofs.lemmas.Bool.Decides.{nat_tests}
 use Rattle.route_lines.specs.Bytes.{lines, rest, onto_first, if_no_piece}
 use Rattle.route_lines.proofs.Cutting.{pieces_make, with_end}
 use Rattle.route_feed.specs.Laws.{IsSplit, SplitIsLines}
-use Rattle.route_feed.proofs.Reread.{first_line}
+use Rattle.route_feed.proofs.PrintedLines.{first_line}
 
 abbrev IsClean : List ℕ → Type 0
 IsClean text = All (λ c. c ≢ 10) text

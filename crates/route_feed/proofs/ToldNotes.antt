@@ -5,8 +5,8 @@ use Rattle.std.specs.Option.{option_to_list}
 use Rattle.route_laws.proofs.Fewest.{number_from_hop}
 use Rattle.ipnet_addr.specs.Addresses.{Address}
 use Rattle.ipnet_blocks.specs.Blocks.{has_address}
-use Rattle.route_lines.specs.declared.note.Note.{Note}
-use Rattle.route_lines.specs.declared.note.Note.TheVariants as N
+use Rattle.route_lines.specs.declared.fib_input.FibInput.{FibInput}
+use Rattle.route_lines.specs.declared.fib_input.FibInput.TheVariants as N
 use Rattle.route_lines.specs.declared.reply.Reply.{Reply}
 use Rattle.route_lines.specs.declared.reply.Reply.TheVariants as R
 use Rattle.route_laws.specs.Painted.{hop_over}
@@ -46,7 +46,7 @@ module _ (x : Address) where
   told_committing (c ∷ cs) N now es = ap (λ o. told o es x) (over_routes now (c ∷ cs) x)
 
   -- an event, and later ones
-  told_event : (s : Installing) (note : Note) (N : List Route) (ls : List Reply) (es : List Event)
+  told_event : (s : Installing) (note : FibInput) (N : List Route) (ls : List Reply) (es : List Event)
       → ((now : Option ℕ) → told now es x ≡ painted_over now (committed_from (pending_past s.pending note) ls) x)
       → (now : Option ℕ) → told now (event_of s note N ++ es) x ≡ painted_over now (committed_from s.pending (cons_option (reply_in note) ls)) x
   told_event s (N.Have net hop) N ls es h now = h now

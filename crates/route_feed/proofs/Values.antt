@@ -21,8 +21,8 @@ use Rattle.route_feed.specs.Steps as steps
 use Rattle.route_feed.specs.Streams.{Change, change_of, closes, is_done, ends_well, committed, closings, painted_over}
 use Rattle.route_feed.proofs.Carried.{painted-append}
 use Rattle.route_feed.proofs.Replies.{form_step, gain}
-use Rattle.route_feed.proofs.Reread.{AreOpen, are_open}
-use Rattle.route_feed.proofs.Seam.{changes_in}
+use Rattle.route_feed.proofs.PrintedLines.{AreOpen, are_open}
+use Rattle.route_feed.proofs.ReplyPaints.{changes_in}
 
 -- ---- where the first lines end
 

@@ -1,8 +1,8 @@
 -- The effect of an input line on an installer.
 use Rattle.std.specs.Prelude.{◌≡◌, ℕ, true, false, not, List, [], ◌∷◌, ◌++◌, map, Option, Some, is_some, unwrap_or, MatchOption, Result, Ok, Err}
 use Rattle.route_lines.specs.declared.cutter.Line.{Line}
-use Rattle.route_lines.specs.declared.note.Note.{Note}
-use Rattle.route_lines.specs.declared.update.Update.TheVariants as U
+use Rattle.route_lines.specs.declared.fib_input.FibInput.{FibInput}
+use Rattle.route_lines.specs.declared.fib_update.FibUpdate.TheVariants as U
 use Rattle.route_laws.specs.LeastTables.{IsLeast}
 use Rattle.route_laws.specs.Nearest.{IsNearest}
 use Rattle.route_laws.specs.Networks.{Stored, routes_of}
@@ -70,7 +70,7 @@ module _ {W : Type 0} (contents : W → Option (List ℕ)) where
     pub torn : Torn contents old new (noted_bytes a n)
 
   -- a note was processed, or the reason why it was not
-  abbrev pub TakesNote : Installing → Note → Counted W → Result Unit RunError → Installing → Counted W → Type 0
+  abbrev pub TakesNote : Installing → FibInput → Counted W → Result Unit RunError → Installing → Counted W → Type 0
   TakesNote a note old (Ok done) b new = (N : List Route) × Takes a b (record { note = note; table = N }) old new
   TakesNote a note old (Err Why.Line) b new = IsUnfit a (Some note) × (new ≡ old)
   TakesNote a note old (Err Why.Memory) b new = MayWant a note × (new ≡ old)

@@ -13,9 +13,9 @@ use Rattle.route_lines.specs.declared.command.Command.{Command}
 use Rattle.route_lines.specs.declared.command.Command.TheVariants.{Add}
 use Rattle.route_lines.specs.declared.cutter.Line.{Line}
 use Rattle.route_lines.specs.declared.cutter.Line.TheVariants.{Text, TooLong}
-use Rattle.route_lines.specs.declared.note.Note.{Note}
+use Rattle.route_lines.specs.declared.fib_input.FibInput.{FibInput}
 use Rattle.route_lines.specs.declared.reply.Reply.{Reply}
-use Rattle.route_lines.specs.declared.update.Update.{Update}
+use Rattle.route_lines.specs.declared.fib_update.FibUpdate.{FibUpdate}
 
 -- the value that the line's text spells for this reader, or none if the line is too long
 abbrev pub spelled_in : {A : Type 0} → (List ℕ → Option A) → Line → Option A
@@ -29,7 +29,7 @@ command_in line = spelled_in command_of line
 abbrev pub reply_in : Line → Option Reply
 reply_in line = spelled_in reply_of line
 
-abbrev pub note_in : Line → Option Note
+abbrev pub note_in : Line → Option FibInput
 note_in line = spelled_in note_of line
 
 -- a reply line, a command and an update, each with its line end
@@ -39,7 +39,7 @@ reply_line reply = reply_text reply ++ codes "\n"
 abbrev pub command_line : Command → List ℕ
 command_line command = command_text command ++ codes "\n"
 
-abbrev pub update_line : Update → List ℕ
+abbrev pub update_line : FibUpdate → List ℕ
 update_line update = update_text update ++ codes "\n"
 
 -- the command that adds a route to its network with the default preference

@@ -8,13 +8,13 @@ use Rattle.route_choices.specs.Choices.{default_preference}
 use Rattle.ipnet.specs.IpNets.{block}
 use Rattle.route_lines.specs.Bytes.{lines, rest}
 use Rattle.route_lines.specs.Spelled.{note_of, update_of}
-use Rattle.route_lines.specs.declared.note.Note.{Note}
-use Rattle.route_lines.specs.declared.note.Note.TheVariants as Notes
+use Rattle.route_lines.specs.declared.fib_input.FibInput.{FibInput}
+use Rattle.route_lines.specs.declared.fib_input.FibInput.TheVariants as Notes
 use Rattle.route_lines.specs.declared.reply.Closing.TheVariants.{Done}
 use Rattle.route_lines.specs.declared.reply.Reply.{Reply}
 use Rattle.route_lines.specs.declared.reply.Reply.TheVariants.{Close}
-use Rattle.route_lines.specs.declared.update.Update.{Update}
-use Rattle.route_lines.specs.declared.update.Update.TheVariants as U
+use Rattle.route_lines.specs.declared.fib_update.FibUpdate.{FibUpdate}
+use Rattle.route_lines.specs.declared.fib_update.FibUpdate.TheVariants as U
 use Rattle.route_laws.specs.LeastTables.{IsLeast}
 use Rattle.route_laws.specs.Nearest.{IsFewestTo}
 use Rattle.route_laws.specs.Networks.{Stored, routes_of}
@@ -27,7 +27,7 @@ use Rattle.route_feed.specs.Output.{at_end, output, table_after, whole_commands}
 use Rattle.route_feed.specs.Streams.{closings, committed, painted, replies_in}
 
 -- the reply line of a note
-abbrev pub reply_in : Note → Option Reply
+abbrev pub reply_in : FibInput → Option Reply
 reply_in (Notes.Have net hop) = None
 reply_in Notes.Sync = None
 reply_in (Notes.Reply line) = Some line
@@ -61,7 +61,7 @@ abbrev pub HasSync : List Noted → Type 0
 HasSync ns = Any (λ n. n.note ≡ Notes.Sync) ns
 
 -- the note doesn't list a route as installed
-abbrev pub IsNoHave : Note → Type 0
+abbrev pub IsNoHave : FibInput → Type 0
 IsNoHave note = (net : IpNet) (hop : Hop) → note ≡ Notes.Have net hop → ⊥
 
 -- ---- moments
@@ -132,21 +132,21 @@ RepliesAreFewest = (ns : List Noted) (nearest : List Route) → MayAllCome start
 -- ---- the lines of the output
 
 -- whether a line is an operation
-abbrev pub is_operation : Update → Bool
+abbrev pub is_operation : FibUpdate → Bool
 is_operation (U.Install net hop) = true
 is_operation (U.Remove net) = true
 is_operation U.Done = false
 
 -- the number of `ok` lines
-abbrev pub oks : List Update → ℕ
+abbrev pub oks : List FibUpdate → ℕ
 oks us = length (filter (λ u. not (is_operation u)) us)
 
 -- the complete update lines in the bytes
-abbrev pub updates_in : List ℕ → List Update
+abbrev pub updates_in : List ℕ → List FibUpdate
 updates_in bytes = filter_map update_of (lines bytes)
 
 -- a table after the lines were carried out, in order
-abbrev pub carried_out : List Route → List Update → List Route
+abbrev pub carried_out : List Route → List FibUpdate → List Route
 carried_out M [] = M
 carried_out M (U.Install net hop ∷ us) = carried_out (with_route M (route_of net hop default_preference)) us
 carried_out M (U.Remove net ∷ us) = carried_out (without_block M (block net)) us

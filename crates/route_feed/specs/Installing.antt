@@ -5,10 +5,10 @@ use Rattle.std.specs.Option.{option_map_or}
 use Rattle.std.specs.Prelude.{codes}
 use Rattle.route_lines.specs.Spelled.{note_of}
 use Rattle.route_lines.specs.Texts.{update_text}
-use Rattle.route_lines.specs.declared.note.Note.{Note}
-use Rattle.route_lines.specs.declared.note.Note.TheVariants as Notes
-use Rattle.route_lines.specs.declared.update.Update.{Update}
-use Rattle.route_lines.specs.declared.update.Update.TheVariants as U
+use Rattle.route_lines.specs.declared.fib_input.FibInput.{FibInput}
+use Rattle.route_lines.specs.declared.fib_input.FibInput.TheVariants as Notes
+use Rattle.route_lines.specs.declared.fib_update.FibUpdate.{FibUpdate}
+use Rattle.route_lines.specs.declared.fib_update.FibUpdate.TheVariants as U
 use Rattle.route_choices.specs.Choices.{default_preference}
 use Rattle.route_choices.specs.Hops.{hop_from}
 use Rattle.route_laws.specs.Operations.{Operation, Install, Remove}
@@ -36,20 +36,20 @@ committing [] N = []
 committing (c ∷ cs) N = Told (map route_to (c ∷ cs)) N ∷ []
 
 -- the event of a note, or none; N is the table that is installed if the event asks for one
-abbrev pub event_of : Installing → Note → List Route → List Event
+abbrev pub event_of : Installing → FibInput → List Route → List Event
 event_of s (Notes.Have net hop) N = Have (route_of net hop default_preference) ∷ []
 event_of s Notes.Sync N = Sync N ∷ []
 event_of s (Notes.Reply line) N = if option_map_or is_done (closes line) false then committing s.pending N else []
 
 -- the pending changes after a note
-abbrev pub pending_past : List Change → Note → List Change
+abbrev pub pending_past : List Change → FibInput → List Change
 pending_past changes (Notes.Have net hop) = changes
 pending_past changes Notes.Sync = changes
 pending_past changes (Notes.Reply line) = pending_after changes (closes line) (change_of line)
 
 -- a note, and the table that is installed if the note asks for one
 pub record Noted : Type 0 where
-  pub note : Note
+  pub note : FibInput
   pub table : List Route
 
 -- the state after a note
@@ -73,16 +73,16 @@ pub record AreNotes (pieces : List (List ℕ)) (ns : List Noted) : Type 0 where
   pub may : MayAllCome start (events begin ns)
 
 -- the line of an operation
-abbrev pub operation_line : Operation → Update
+abbrev pub operation_line : Operation → FibUpdate
 operation_line (Install r) = U.Install (network_at r.block) r.hop
 operation_line (Remove b) = U.Remove (network_at b)
 
 -- the output at an event: if the table is kept in sync after it, its operations and `ok`
-abbrev pub event_lines : Installer → Event → List Update
+abbrev pub event_lines : Installer → Event → List FibUpdate
 event_lines s e = if (after_event s e).kept then map operation_line (gives s e) ++ U.Done ∷ [] else []
 
 -- the output at these events
-abbrev pub update_lines : Installer → List Event → List Update
+abbrev pub update_lines : Installer → List Event → List FibUpdate
 update_lines s [] = []
 update_lines s (e ∷ es) = event_lines s e ++ update_lines (after_event s e) es
 
@@ -92,7 +92,7 @@ batches s [] = 0
 batches s (e ∷ es) = if (after_event s e).kept then suc (batches (after_event s e) es) else batches (after_event s e) es
 
 -- these lines, printed in order
-abbrev pub printed_updates : List Update → List ℕ
+abbrev pub printed_updates : List FibUpdate → List ℕ
 printed_updates us = flat_map (λ u. update_text u ++ codes "\n") us
 
 -- the output at a note
@@ -108,14 +108,14 @@ abbrev pub batches_given : List Noted → ℕ
 batches_given ns = batches start (events begin ns)
 
 -- a line that can't be accepted: it spells no note, or is a `have` once the table is kept in sync
-abbrev pub IsUnfit : Installing → Option Note → Type 0
+abbrev pub IsUnfit : Installing → Option FibInput → Type 0
 IsUnfit s None = Unit {0}
 IsUnfit s (Some (Notes.Have net hop)) = s.tables.kept ≡ true
 IsUnfit s (Some Notes.Sync) = ⊥
 IsUnfit s (Some (Notes.Reply line)) = ⊥
 
 -- the note may need memory: a `have`, a `sync`, a change, or an `ok` with pending changes
-abbrev pub MayWant : Installing → Note → Type 0
+abbrev pub MayWant : Installing → FibInput → Type 0
 MayWant s (Notes.Have net hop) = s.tables.kept ≡ false
 MayWant s Notes.Sync = Unit {0}
 MayWant s (Notes.Reply line) = WantsMemory s.pending line

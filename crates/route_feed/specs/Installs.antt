@@ -3,7 +3,7 @@ use Rattle.std.specs.Prelude.{◌≡◌, ℕ, ◌⊎◌, List, [], ◌∷◌, �
 use Rattle.std.specs.Io.KnownBytes.{Appends, Consumes, IsAtEnd}
 use Rattle.route_lines.specs.Bytes.{lines}
 use Rattle.route_lines.specs.Spelled.{note_of}
-use Rattle.route_lines.specs.declared.note.Note.{Note}
+use Rattle.route_lines.specs.declared.fib_input.FibInput.{FibInput}
 use Rattle.route_feed.specs.declared.counted.Counted.{Counted}
 use Rattle.route_feed.specs.declared.error.RunError.{RunError}
 use Rattle.route_feed.specs.declared.error.RunError.TheVariants as Why
@@ -55,7 +55,7 @@ module _ {R W : Type 0} (remaining : R → Option (List ℕ)) (contents : W → 
   -- this line is a note that may need memory; the output of the notes before it was written and flushed
   pub record MeetsWanting (from to : Counted R) (old new : Counted W) : Type 0 where
     pub meets : Meets remaining from to
-    pub note : Note
+    pub note : FibInput
     pub is_note : note_of meets.piece ≡ Some note
     pub wants : MayWant (after_notes begin meets.notes) note
     pub gives : Gives contents meets.notes old new

@@ -13,7 +13,7 @@ pub enum AtEnd {
 
 impl AtEnd {
     /// Drops the value, or leaks it.
-    pub(crate) fn give_up<T: Drop>(self, value: T) {
+    pub(crate) fn discard<T: Drop>(self, value: T) {
         match self {
             AtEnd::Free => drop(value),
             AtEnd::Leak => {

@@ -9,7 +9,7 @@ ghost use Rattle.route_laws.specs.Networks.{routes_of};
 ghost use Rattle.route_laws.specs.Operations.{between};
 ghost use Rattle.route_laws.specs.Painted.{painted_all};
 ghost use Rattle.route_laws.specs.Tables.{IsTable, hop_at, route_of};
-ghost use Rattle.route_lines.specs.declared.note.Note.{Note};
+ghost use Rattle.route_lines.specs.declared.fib_input.FibInput.{FibInput};
 ghost use Rattle.route_table.specs.Operations.{network_of, operation_of};
 ghost use Rattle.route_feed.specs.Counted.{CanCount};
 ghost use Rattle.route_feed.specs.Devices.{Closes};
@@ -25,7 +25,7 @@ use crate::counted::Counted;
 use crate::error::RunError;
 use crate::writing::{close, write_operations};
 use ipnet::IpNet;
-use route_lines::{Closing, Note, Reply};
+use route_lines::{Closing, FibInput, Reply};
 use route_table::{Hop, HopTable, Operation};
 use std::alloc::Global;
 use std::io::Write;
@@ -147,16 +147,16 @@ impl Installer {
     /// Processes a line.
     pub(crate) fn take_note<W: Write>(
         &mut self,
-        note: Note,
+        note: FibInput,
         writer: &mut Counted<W>,
     ) -> Result<(), RunError>
         requires { CanCount writer.old }
         ensures { TakesNote W.contents self.old note writer.old result self.new writer.new }
     {
         match note {
-            Note::Have { net, hop } => self.have(net, hop),
-            Note::Sync => self.sync(writer),
-            Note::Reply(line) => self.reply(line, writer),
+            FibInput::Have { net, hop } => self.have(net, hop),
+            FibInput::Sync => self.sync(writer),
+            FibInput::Reply(line) => self.reply(line, writer),
         }
     }
 
@@ -200,7 +200,7 @@ impl Installer {
     /// Turns the installed table into a least table of the committed hops. If it is one already, it stays.
     fn sync<W: Write>(&mut self, writer: &mut Counted<W>) -> Result<(), RunError>
         requires { CanCount writer.old }
-        ensures { TakesNote W.contents self.old Note.Sync writer.old result self.new writer.new }
+        ensures { TakesNote W.contents self.old FibInput.Sync writer.old result self.new writer.new }
     {
         let list = least(&self.table)?;
         if self.before.is_none() && has_as_many(&self.table, list.as_slice()) {
@@ -212,7 +212,7 @@ impl Installer {
     /// Processes a reply line.
     fn reply<W: Write>(&mut self, line: Reply, writer: &mut Counted<W>) -> Result<(), RunError>
         requires { CanCount writer.old }
-        ensures { TakesNote W.contents self.old (Note.Reply line) writer.old result self.new writer.new }
+        ensures { TakesNote W.contents self.old (FibInput.Reply line) writer.old result self.new writer.new }
     {
         match line {
             Reply::Set { net, number } => self.keep(net, Hop::Number(number)),
@@ -239,7 +239,7 @@ impl Installer {
     /// Commits the pending changes.
     fn commit<W: Write>(&mut self, writer: &mut Counted<W>) -> Result<(), RunError>
         requires { CanCount writer.old }
-        ensures { TakesNote W.contents self.old (Note.Reply (Reply.Close Closing.Done)) writer.old result self.new writer.new }
+        ensures { TakesNote W.contents self.old (FibInput.Reply (Reply.Close Closing.Done)) writer.old result self.new writer.new }
     {
         if self.before.is_some() {
             self.commit_unseen()
@@ -269,7 +269,7 @@ impl Installer {
         requires counts { CanCount writer.old }
         requires kept { self.old.tables.kept ≡ true }
         requires some { 0 < length self.old.pending }
-        ensures { TakesNote W.contents self.old (Note.Reply (Reply.Close Closing.Done)) writer.old result self.new writer.new }
+        ensures { TakesNote W.contents self.old (FibInput.Reply (Reply.Close Closing.Done)) writer.old result self.new writer.new }
     {
         let operations = update(&mut self.table, self.waiting.as_slice())?;
         give_batch(writer, operations.as_slice())?;

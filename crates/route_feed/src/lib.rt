@@ -7,7 +7,7 @@ pub use counted::Counted;
 pub use error::RunError;
 pub use follower::{FollowError, Follower};
 pub use input::Input;
-pub use output::{Output, REPLY, let_go, write_out};
+pub use output::{OUTPUT_BUFFER, Output, release, write_out};
 pub use runs::{follow, follow_then, install, lead, lead_then, shorten};
 
 mod answer;

@@ -12,7 +12,7 @@ use std::io;
 use std::io::{BufWriter, Write};
 
 /// The most bytes of a reply that are gathered before they are written.
-pub const REPLY: usize = 1 << 16;
+pub const OUTPUT_BUFFER: usize = 1 << 16;
 
 /// A writer that is flushed only if no more lines are available, as `more` says. Errors of the device are passed on.
 #[derive(Drop)]
@@ -74,13 +74,13 @@ pub fn write_out<W: Write + Drop>(buffered: BufWriter<W>) -> Result<W, RunError>
     match buffered.into_inner() {
         Ok(output) => Ok(output),
         Err(error) => {
-            let_go(error.into_inner());
+            release(error.into_inner());
             Err(RunError::Write)
         }
     }
 }
 
 /// Drops a writer; the bytes that it has gathered are not written.
-pub fn let_go<W: Write + Drop>(buffered: BufWriter<W>) {
+pub fn release<W: Write + Drop>(buffered: BufWriter<W>) {
     let (_output, _unwritten) = buffered.into_parts();
 }

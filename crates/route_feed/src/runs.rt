@@ -16,7 +16,7 @@ use crate::counted::Counted;
 use crate::error::RunError;
 use crate::follower::Follower;
 use crate::installer::Installer;
-use crate::sink::{PIECE, run};
+use crate::sink::{INPUT_BUFFER, run};
 use crate::writing::{reply, write_routes};
 use route_table::RouteTable;
 use std::alloc::Global;
@@ -87,11 +87,11 @@ pub fn lead_then<R: Read, W: Write>(
     ensures known { OnOk result (IfSome (R.remaining reader.old.device) (λ bytes.
         (refusals : List Bool) × Appends (W.contents writer.old.device) (W.contents writer.new.device) (output bytes refusals))) }
 {
-    let mut buf = vec![in alloc; 0; PIECE]?;
+    let mut buf = vec![in alloc; 0; INPUT_BUFFER]?;
     let mut table = RouteTable::new(alloc)?;
     let rest = run(&mut table, buf.as_mut_slice(), reader, writer)?;
     let result = answer_rest(rest, writer);
-    at_end.give_up(table);
+    at_end.discard(table);
     result
 }
 
@@ -104,7 +104,7 @@ fn follow_all<R: Read, W: Write>(
     requires { CanRead reader.old }
     ensures { Reaches R.remaining reader.old reader.new writer.old writer.new result }
 {
-    let mut buf = vec![in alloc; 0; PIECE]?;
+    let mut buf = vec![in alloc; 0; INPUT_BUFFER]?;
     let mut follower = Follower::new(alloc)?;
     run(&mut follower, buf.as_mut_slice(), reader, writer)?;
     Ok(follower)
@@ -172,7 +172,7 @@ pub fn follow_then<R: Read, W: Write>(
 {
     let follower = follow_all(alloc, reader, writer)?;
     let result = reply(writer, follower.pieces());
-    at_end.give_up(follower);
+    at_end.discard(follower);
     result
 }
 
@@ -269,7 +269,7 @@ pub fn install<R: Read, W: Write>(
     ensures known { OnOk result (IfSome (R.remaining reader.old.device) (λ bytes.
         AppendsInstalled (lines bytes) (W.contents writer.old.device) (W.contents writer.new.device))) }
 {
-    let mut buf = vec![in alloc; 0; PIECE]?;
+    let mut buf = vec![in alloc; 0; INPUT_BUFFER]?;
     let mut installer = Installer::new(alloc)?;
     run(&mut installer, buf.as_mut_slice(), reader, writer)?;
     Ok(())

@@ -17,7 +17,7 @@ use std::io::{Read, Write};
 const MOST_READS: u64 = 1 << 62;
 
 /// The number of bytes that one read asks for.
-pub(crate) const PIECE: usize = 1 << 16;
+pub(crate) const INPUT_BUFFER: usize = 1 << 16;
 
 /// A receiver of the lines of an input, one by one, which may write while it receives.
 pub(crate) trait Sink<W: Write> {

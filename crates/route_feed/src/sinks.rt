@@ -12,7 +12,7 @@ use crate::error::RunError;
 use crate::follower::Follower;
 use crate::installer::Installer;
 use crate::sink::Sink;
-use route_lines::Note;
+use route_lines::FibInput;
 use route_table::RouteTable;
 use std::io::Write;
 
@@ -52,7 +52,7 @@ impl<W: Write> Sink<W> for Installer {
         let Some(text) = text else {
             return Err(RunError::Line);
         };
-        let Ok(note) = Note::read(text) else {
+        let Ok(note) = FibInput::read(text) else {
             return Err(RunError::Line);
         };
         self.take_note(note, writer)

@@ -13,7 +13,7 @@ use crate::body::{Body, Operations};
 use crate::counted::Counted;
 use crate::error::RunError;
 use arrayvec::ArrayVec;
-use route_lines::{Closing, Command, Reply, Update};
+use route_lines::{Closing, Command, FibUpdate, Reply};
 use route_table::{DEFAULT_PREFERENCE, LeastRoutes};
 use std::io::Write;
 
@@ -112,7 +112,7 @@ pub(crate) fn write_operations<W: Write, O: Operations>(
 {
     let mut text = ArrayVec::new();
     while let Some(operation) = operations.next_operation() {
-        Update::from(operation).print_to(&mut text);
+        FibUpdate::from(operation).print_to(&mut text);
         write_piece(writer, text.as_slice())?;
     }
     Ok(())

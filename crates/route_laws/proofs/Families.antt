@@ -8,7 +8,7 @@ use Rattle.ipnet_blocks.proofs.BlockLaws.{has_first}
 use Rattle.ipnet_blocks.proofs.Maximals.{member_is_address}
 use Rattle.ipnet_blocks.proofs.Search.{whole_is_block, inside_whole}
 use Rattle.std.proofs.Math.Nat.{div-eq_of_lt}
-use Rattle.route_laws.specs.Fewest.{handed, hop_under, GivesInside, IsFewest, LeastIsFewest}
+use Rattle.route_laws.specs.Fewest.{inherited, hop_under, GivesInside, IsFewest, LeastIsFewest}
 use Rattle.route_laws.specs.LeastTables.{HasHops, IsLeast}
 use Rattle.route_laws.specs.Tables.{Route, IsTable, hop_at, match_number, match_of}
 use Rattle.route_laws.proofs.Insides.{within, within_gives, sound, few, joined_table, joined_first, joined_second}
@@ -44,7 +44,7 @@ in_family x a = (refl, let z : width x.family - 0 ≡ width x.family = omega ari
 pub hop_is : (N : List Route) (x : Address) → hop_under None N x ≡ hop_at N x
 hop_is N x = go (match_of N (host x))
   where
-    go : (o : Option Route) → handed None o ≡ match_number o
+    go : (o : Option Route) → inherited None o ≡ match_number o
     go None = refl
     go (Some r) = refl
 

@@ -12,7 +12,7 @@ use Rattle.ipnet_blocks.proofs.Parents.{larger_is_shorter}
 use Rattle.ipnet_blocks.proofs.Search.{left_is_block, right_is_block, left_inside, right_inside, in_a_half, address_in_a_half, leaf_address, halves_in_order}
 use Rattle.ipnet_blocks.specs.Halves.{IsLesser}
 use Rattle.route_choices.specs.Hops.{IsHop, hop_from, number_of}
-use Rattle.route_laws.specs.Fewest.{handed, hop_under, GivesInside, IsFewest, AreHops, FewestOfHost}
+use Rattle.route_laws.specs.Fewest.{inherited, hop_under, GivesInside, IsFewest, AreHops, FewestOfHost}
 use Rattle.route_laws.specs.Tables.{Route, IsTable, match_of}
 use Rattle.route_laws.proofs.Insides.{Sooner, sound, rising, table_of, within, within_gives, under_route, few, joined_gives}
 use Rattle.route_laws.proofs.Ordered.{same_or_not, before_apart, before_inner}
@@ -76,7 +76,7 @@ free_of_large h small b ok j large N g = record {
   same = λ x m. go x (small x (member_is_address b x ok m)) (match_of N (host x)) (g.same x m);
 }
   where
-    go : (x : Address) → IfSome (h x) (λ i. i < 2 ^ 32) → (o : Option Route) → handed (Some j) o ≡ h x → handed None o ≡ h x
+    go : (x : Address) → IfSome (h x) (λ i. i < 2 ^ 32) → (o : Option Route) → inherited (Some j) o ≡ h x → inherited None o ≡ h x
     go x f None e = let l : IfSome (Some j) (λ i. i < 2 ^ 32) = subst (λ (u : Option ℕ). IfSome u (λ i. i < 2 ^ 32)) (sym e) f in absurd (omega (arith, l, large))
     go x f (Some r) e = e
 

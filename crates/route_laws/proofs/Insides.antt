@@ -11,7 +11,7 @@ use Rattle.ipnet_blocks.proofs.BlockLaws.{strict}
 use Rattle.ipnet_blocks.proofs.Maximals.{host_is_block, has_host, in_host, member_is_address}
 use Rattle.route_choices.specs.Hops.{IsHop, number_of}
 use Rattle.route_choices.proofs.Kept.{Rising-kept, Rising-joined, length-apart, In-filter, In-from_filter}
-use Rattle.route_laws.specs.Fewest.{handed, hop_under, GivesInside}
+use Rattle.route_laws.specs.Fewest.{inherited, hop_under, GivesInside}
 use Rattle.route_laws.specs.Tables.{Route, IsTable, covering, longer, longest, match_of}
 use Rattle.route_laws.proofs.Matches.{AtLeast, best_of, inside_from_test, test_from_inside}
 use Rattle.route_laws.proofs.Ordered.{one_of_block}
@@ -91,7 +91,7 @@ module _ (b : Block) (ok : IsBlock b) (M : List Route) (table : IsTable M) where
         let t = In-from_filter (λ q. is_inside q.block b) M r i in inside_from_test r.block b (sound M table r t.0).0 ok t.1);
     same = λ x m.
         let a = member_is_address b x ok m in
-        ap (λ N. handed s (longest N)) (filter_again (λ r. is_inside r.block b) (holds x a) M (λ r i e.
+        ap (λ N. inherited s (longest N)) (filter_again (λ r. is_inside r.block b) (holds x a) M (λ r i e.
         let p = (sound M table r i).0 in test_from_inside r.block b p ok (lies x m r i (has_from_test x a r p e))))
         ∙ same x m;
   }
@@ -101,7 +101,7 @@ pub under_route : (r : Route) (M : List Route) (s : Option ℕ) (x : Address) �
     → ((q : Route) → In q M → Block.len r.block < Block.len q.block) → hop_under s (r ∷ M) x ≡ hop_under (number_of r.hop) M x
 under_route r M s x a p m longer_than = rw (test_from_has x a r p m) (go (longest (covering M (host x))) (best_of (covering M (host x))))
   where
-    go : (o : Option Route) → MatchOption o ((q : Route) → In q (covering M (host x)) → ⊥) (λ q. AtLeast q (covering M (host x))) → handed s (Some (longer r o)) ≡ handed (number_of r.hop) o
+    go : (o : Option Route) → MatchOption o ((q : Route) → In q (covering M (host x)) → ⊥) (λ q. AtLeast q (covering M (host x))) → inherited s (Some (longer r o)) ≡ inherited (number_of r.hop) o
     go None b = refl
     go (Some q) b =
         let i = (In-from_filter (holds x a) M q b.0).0 in
@@ -130,11 +130,11 @@ module _ (c d : Block) (okc : IsBlock c) (okd : IsBlock d)
 
     -- in each the hops are those of its own table
     pub joined_first : (x : Address) → HasAddress c x → hop_under s (L ++ N) x ≡ h x
-    joined_first x m = ap (handed s) (same_match x (member_is_address c x okc m) (L ++ N) L joined_table gl.table
+    joined_first x m = ap (inherited s) (same_match x (member_is_address c x okc m) (L ++ N) L joined_table gl.table
         (λ r i k. ⊎_elim (λ j. j) (λ j. absurd (separate x m (lies_d r j x k))) (In-cases r L N i)) (λ r i k. In-left r L N i)) ∙ gl.same x m
 
     pub joined_second : (x : Address) → HasAddress d x → hop_under s (L ++ N) x ≡ h x
-    joined_second x m = ap (handed s) (same_match x (member_is_address d x okd m) (L ++ N) N joined_table gn.table
+    joined_second x m = ap (inherited s) (same_match x (member_is_address d x okd m) (L ++ N) N joined_table gn.table
         (λ r i k. ⊎_elim (λ j. absurd (separate x (lies_c r j x k) m)) (λ j. j) (In-cases r L N i)) (λ r i k. In-right r L N i)) ∙ gn.same x m
 
     pub joined_gives : (b : Block) → IsInside c b → IsInside d b → ((x : Address) → HasAddress b x → (HasAddress c x) ⊎ (HasAddress d x)) → GivesInside h b s (L ++ N)

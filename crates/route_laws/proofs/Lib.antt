@@ -25,7 +25,7 @@ pub mod Families
 pub mod Turning
 pub mod Between
 pub mod Painted
-pub mod Handed
+pub mod Inherited
 pub mod FewestOperations
 pub mod Nearest
 pub mod Runs

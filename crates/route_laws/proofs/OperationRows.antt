@@ -42,8 +42,8 @@ naive_row : map (λ i. hop_at (after_all old (take i (Install (route 8 10 (Numbe
 naive_row = refl
 
 -- all of 10.0.0.0/9 to 1: it inherits 1, so no route is left there
-handed_row : painted old (route 9 20 (Number 1)) ≡ route 8 10 (Number 1) ∷ []
-handed_row = refl
+inherited_row : painted old (route 9 20 (Number 1)) ≡ route 8 10 (Number 1) ∷ []
+inherited_row = refl
 
 -- no hop for 10.0.0.0/9
 unset_row : painted old (route 9 20 Drop) ≡ route 8 10 (Number 1) ∷ route 9 20 Drop ∷ []

@@ -14,7 +14,7 @@ use Rattle.ipnet.specs.declared.ip_net.IpNet.{IpNet}
 use Rattle.route_choices.specs.Hops.{IsHop, number_of}
 use Rattle.route_choices.specs.Choices.{Choice}
 use Rattle.route_choices.proofs.Kept.{Rising-kept, filter_map_swap, In-from_filter, In-filter}
-use Rattle.route_laws.specs.Fewest.{handed, hop_under}
+use Rattle.route_laws.specs.Fewest.{inherited, hop_under}
 use Rattle.route_laws.specs.Overwritten.{without_inside, overwritten}
 use Rattle.route_laws.specs.Tables.{Route, IsTable, longer, longest, match_of, hop_at, with_route}
 use Rattle.route_laws.proofs.Families.{hop_is}
@@ -187,9 +187,9 @@ module _ (M : List Route) (m : IsTable M) (r : Route) (ok : IsBlock r.block) whe
 
   -- so if it inherits this hop or none from outside the table
   pub over_under : IsHop r.hop → (s : Option ℕ) (x : Address) → IsAddress x → hop_under s (overwritten M r) x ≡ cond (has_address r.block x) (number_of r.hop) (hop_under s M x)
-  over_under hop s x a = ap (handed s) (over_match hop x a) ∙ go (has_address r.block x)
+  over_under hop s x a = ap (inherited s) (over_match hop x a) ∙ go (has_address r.block x)
     where
-      go : (c : Bool) → handed s (cond c (Some r) (match_of M (host x))) ≡ cond c (number_of r.hop) (hop_under s M x)
+      go : (c : Bool) → inherited s (cond c (Some r) (match_of M (host x))) ≡ cond c (number_of r.hop) (hop_under s M x)
       go true = refl
       go false = refl
 

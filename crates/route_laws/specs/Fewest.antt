@@ -8,13 +8,13 @@ use Rattle.route_laws.specs.LeastTables.{HasHops, IsLeast}
 use Rattle.route_laws.specs.Tables.{Route, IsTable, hop_at, match_of}
 
 -- the hop of a match, or s if there is none
-abbrev pub handed : Option ℕ → Option Route → Option ℕ
-handed s None = s
-handed s (Some r) = number_of r.hop
+abbrev pub inherited : Option ℕ → Option Route → Option ℕ
+inherited s None = s
+inherited s (Some r) = number_of r.hop
 
 -- the hop of an address if the block inherits s, a number or none, from the routes outside
 abbrev pub hop_under : Option ℕ → List Route → Address → Option ℕ
-hop_under s N x = handed s (match_of N (host x))
+hop_under s N x = inherited s (match_of N (host x))
 
 -- N is a table inside b in which each address of b has the hop that h gives, if b inherits s
 pub record GivesInside (h : Address → Option ℕ) (b : Block) (s : Option ℕ) (N : List Route) : Type 0 where

@@ -13,10 +13,10 @@ use Rattle.route_lines.specs.declared.reply.Closing.{Closing}
 use Rattle.route_lines.specs.declared.reply.Closing.TheVariants.{Done, Missing, Bad, Refused}
 use Rattle.route_lines.specs.declared.reply.Reply.{Reply}
 use Rattle.route_lines.specs.declared.reply.Reply.TheVariants as R
-use Rattle.route_lines.specs.declared.note.Note.{Note}
-use Rattle.route_lines.specs.declared.note.Note.TheVariants as N
-use Rattle.route_lines.specs.declared.update.Update.{Update}
-use Rattle.route_lines.specs.declared.update.Update.TheVariants as U
+use Rattle.route_lines.specs.declared.fib_input.FibInput.{FibInput}
+use Rattle.route_lines.specs.declared.fib_input.FibInput.TheVariants as N
+use Rattle.route_lines.specs.declared.fib_update.FibUpdate.{FibUpdate}
+use Rattle.route_lines.specs.declared.fib_update.FibUpdate.TheVariants as U
 
 -- no value stands after this word
 abbrev No : {A : Type 0} → (List ℕ → A → Type 0) → List ℕ → List ℕ → Type 0
@@ -95,12 +95,12 @@ no_reply line set unset route flat own count close (R.Own net) h = own net h
 no_reply line set unset route flat own count close (R.Count v4 v6) h = count (v4, v6) h
 no_reply line set unset route flat own count close (R.Close c) h = close c h
 
-pub no_note : (line : List ℕ) → No (Then IsNet IsHop) (codes "have ") line → line ≢ codes "sync" → ((r : Reply) → ¬ (IsReply line r)) → (n : Note) → ¬ (IsNote line n)
+pub no_note : (line : List ℕ) → No (Then IsNet IsHop) (codes "have ") line → line ≢ codes "sync" → ((r : Reply) → ¬ (IsReply line r)) → (n : FibInput) → ¬ (IsNote line n)
 no_note line have sync reply (N.Have net hop) h = have (net, hop) h
 no_note line have sync reply N.Sync h = sync h
 no_note line have sync reply (N.Reply r) h = reply r h
 
-pub no_update : (line : List ℕ) → No (Then IsNet IsHop) (codes "install ") line → No IsNet (codes "remove ") line → line ≢ codes "ok" → (u : Update) → ¬ (IsUpdate line u)
+pub no_update : (line : List ℕ) → No (Then IsNet IsHop) (codes "install ") line → No IsNet (codes "remove ") line → line ≢ codes "ok" → (u : FibUpdate) → ¬ (IsUpdate line u)
 no_update line install remove done (U.Install net hop) h = install (net, hop) h
 no_update line install remove done (U.Remove net) h = remove net h
 no_update line install remove done U.Done h = done h

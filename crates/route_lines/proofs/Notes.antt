@@ -10,8 +10,8 @@ use Rattle.route_lines.specs.InnerPhrase.{Gives}
 use Rattle.route_lines.specs.Spelled.{note_of, reply_of}
 use Rattle.route_lines.specs.Texts.{IsReply, IsNote}
 use Rattle.route_lines.specs.Words.{IsNet, IsHop}
-use Rattle.route_lines.specs.declared.note.Note.{Note}
-use Rattle.route_lines.specs.declared.note.Note.TheVariants as N
+use Rattle.route_lines.specs.declared.fib_input.FibInput.{FibInput}
+use Rattle.route_lines.specs.declared.fib_input.FibInput.TheVariants as N
 use Rattle.route_lines.specs.declared.reply.Reply.{Reply}
 use Rattle.route_lines.specs.Grammar.{IsGrammar}
 use Rattle.route_lines.proofs.Good as Good
@@ -32,7 +32,7 @@ begins_have text x h = ap start h.spelled
 have_or_sync : (text : List ℕ) (x : IpNet × Hop) → After (codes "have ") (Then IsNet IsHop) text x → text ≢ codes "sync"
 have_or_sync text x h e = omega (arith, sym (begins_have text x h) ∙ ap start e)
 
-one_note : (text : List ℕ) (a b : Note) → IsNote text a → IsNote text b → a ≡ b
+one_note : (text : List ℕ) (a b : FibInput) → IsNote text a → IsNote text b → a ≡ b
 one_note text (N.Have net hop) (N.Have other next) h k = ap (λ (x : IpNet × Hop). N.Have x.0 x.1) (have.one text (net, hop) (other, next) h k)
 one_note text (N.Have net hop) N.Sync h k = absurd (have_or_sync text (net, hop) h k)
 one_note text (N.Have net hop) (N.Reply r) h k = absurd (not_have text r k (begins_have text (net, hop) h))
@@ -43,12 +43,12 @@ one_note text (N.Reply r) (N.Have net hop) h k = absurd (not_have text r h (begi
 one_note text (N.Reply r) N.Sync h k = absurd (not_sync text r h (ap start k))
 one_note text (N.Reply r) (N.Reply s) h k = ap N.Reply (reply_lines.one text r s h k)
 
-short_note : (text : List ℕ) (a : Note) → IsNote text a → length text ≤ 74
+short_note : (text : List ℕ) (a : FibInput) → IsNote text a → length text ≤ 74
 short_note text (N.Have net hop) h = have.short text (net, hop) h
 short_note text N.Sync h = sync.short text tt h
 short_note text (N.Reply r) h = reply_lines.short text r h
 
-clean_note : (text : List ℕ) (a : Note) → IsNote text a → All (λ c. c ≢ 10) text
+clean_note : (text : List ℕ) (a : FibInput) → IsNote text a → All (λ c. c ≢ 10) text
 clean_note text (N.Have net hop) h = have.clean text (net, hop) h
 clean_note text N.Sync h = sync.clean text tt h
 clean_note text (N.Reply r) h = reply_lines.clean text r h

@@ -26,9 +26,9 @@ use Rattle.route_lines.specs.declared.reply.Closing.{Closing}
 use Rattle.route_lines.specs.declared.reply.Closing.TheVariants.{Done, Missing, Bad, Refused}
 use Rattle.route_lines.specs.declared.reply.Reply.{Reply}
 use Rattle.route_lines.specs.declared.reply.Reply.TheVariants as R
-use Rattle.route_lines.specs.declared.note.Note.{Note}
-use Rattle.route_lines.specs.declared.note.Note.TheVariants as N
-use Rattle.route_lines.specs.declared.update.Update.TheVariants as U
+use Rattle.route_lines.specs.declared.fib_input.FibInput.{FibInput}
+use Rattle.route_lines.specs.declared.fib_input.FibInput.TheVariants as N
+use Rattle.route_lines.specs.declared.fib_update.FibUpdate.TheVariants as U
 use Rattle.route_lines.proofs.Words.{not_two, no_first, no_second, both, gives_after}
 use Rattle.route_lines.proofs.Exits.{no_optional, no_preferred, no_command, no_closing, no_reply, no_note, no_update}
 
@@ -206,7 +206,7 @@ reply_found s =
 gives_net_hop : (s : List ℕ) → Gives (Then IsNet IsHop) s (of_both net_of_text hop_of_text s)
 gives_net_hop = gives_net_and IsHop hop_of_text gives_hop
 
-replies : (s : List ℕ) (o : Option Reply) → Gives IsReply s o → (((r : Reply) → ¬ (IsReply s r)) → (n : Note) → ¬ (IsNote s n)) → Gives IsNote s (option_map N.Reply o)
+replies : (s : List ℕ) (o : Option Reply) → Gives IsReply s o → (((r : Reply) → ¬ (IsReply s r)) → (n : FibInput) → ¬ (IsNote s n)) → Gives IsNote s (option_map N.Reply o)
 replies s None h none = none h
 replies s (Some r) h none = h
 

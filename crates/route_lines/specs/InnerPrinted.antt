@@ -7,8 +7,8 @@ use Rattle.route_lines.specs.declared.command.Command.{Command}
 use Rattle.route_lines.specs.declared.command.Command.TheVariants as C
 use Rattle.route_lines.specs.declared.reply.Reply.{Reply}
 use Rattle.route_lines.specs.declared.reply.Reply.TheVariants as R
-use Rattle.route_lines.specs.declared.update.Update.{Update}
-use Rattle.route_lines.specs.declared.update.Update.TheVariants as U
+use Rattle.route_lines.specs.declared.fib_update.FibUpdate.{FibUpdate}
+use Rattle.route_lines.specs.declared.fib_update.FibUpdate.TheVariants as U
 
 -- the text of a value, in at most `limit` bytes; its words read as the parts of the value
 pub record AreWords {A : Type 0} (text_of : A → List ℕ) (Words : A → Type 0) (limit : ℕ) (x : A) (out : List ℕ) : Type 0 where
@@ -41,7 +41,7 @@ ReplyWords (R.Count v4 v6) = (v4 ≤ 0xffffffffffffffff) × (v6 ≤ 0xffffffffff
 ReplyWords (R.Close closing) = ⊤
 
 -- the words of a line of an installer's output
-abbrev pub UpdateWords : Update → Type 0
+abbrev pub UpdateWords : FibUpdate → Type 0
 UpdateWords (U.Install net hop) = Reads (net_text net) net × IsHop (hop_text hop) hop
 UpdateWords (U.Remove net) = Reads (net_text net) net
 UpdateWords U.Done = ⊤

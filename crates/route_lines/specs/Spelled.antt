@@ -14,10 +14,10 @@ use Rattle.route_lines.specs.declared.reply.Closing.{Closing}
 use Rattle.route_lines.specs.declared.reply.Closing.TheVariants.{Done, Missing, Bad, Refused}
 use Rattle.route_lines.specs.declared.reply.Reply.{Reply}
 use Rattle.route_lines.specs.declared.reply.Reply.TheVariants as R
-use Rattle.route_lines.specs.declared.note.Note.{Note}
-use Rattle.route_lines.specs.declared.note.Note.TheVariants as N
-use Rattle.route_lines.specs.declared.update.Update.{Update}
-use Rattle.route_lines.specs.declared.update.Update.TheVariants as U
+use Rattle.route_lines.specs.declared.fib_input.FibInput.{FibInput}
+use Rattle.route_lines.specs.declared.fib_input.FibInput.TheVariants as N
+use Rattle.route_lines.specs.declared.fib_update.FibUpdate.{FibUpdate}
+use Rattle.route_lines.specs.declared.fib_update.FibUpdate.TheVariants as U
 
 -- the texts before and after the first space
 abbrev pub split : List ℕ → Option (List ℕ × List ℕ)
@@ -92,14 +92,14 @@ reply_of s =
     (option_map R.Close (closing_of_text s)))))))
 
 -- the line of an installer's input that the text spells
-unfoldable pub note_of : List ℕ → Option Note
+unfoldable pub note_of : List ℕ → Option FibInput
 note_of s =
     or_else (option_map (λ x. N.Have x.0 x.1) (after_prefix (codes "have ") (of_both net_of_text hop_of_text) s))
     (or_else (of_word (codes "sync") N.Sync s)
     (option_map N.Reply (reply_of s)))
 
 -- the line of an installer's output that the text spells
-unfoldable pub update_of : List ℕ → Option Update
+unfoldable pub update_of : List ℕ → Option FibUpdate
 update_of s =
     or_else (option_map (λ x. U.Install x.0 x.1) (after_prefix (codes "install ") (of_both net_of_text hop_of_text) s))
     (or_else (option_map U.Remove (after_prefix (codes "remove ") net_of_text s))

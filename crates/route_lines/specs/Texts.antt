@@ -12,10 +12,10 @@ use Rattle.route_lines.specs.declared.reply.Closing.{Closing}
 use Rattle.route_lines.specs.declared.reply.Closing.TheVariants.{Done, Missing, Bad, Refused}
 use Rattle.route_lines.specs.declared.reply.Reply.{Reply}
 use Rattle.route_lines.specs.declared.reply.Reply.TheVariants as R
-use Rattle.route_lines.specs.declared.note.Note.{Note}
-use Rattle.route_lines.specs.declared.note.Note.TheVariants as N
-use Rattle.route_lines.specs.declared.update.Update.{Update}
-use Rattle.route_lines.specs.declared.update.Update.TheVariants as U
+use Rattle.route_lines.specs.declared.fib_input.FibInput.{FibInput}
+use Rattle.route_lines.specs.declared.fib_input.FibInput.TheVariants as N
+use Rattle.route_lines.specs.declared.fib_update.FibUpdate.{FibUpdate}
+use Rattle.route_lines.specs.declared.fib_update.FibUpdate.TheVariants as U
 use Rattle.route_table.specs.declared.between.Operation.{Operation}
 use Rattle.route_table.specs.declared.between.Operation.TheVariants as O
 
@@ -51,19 +51,19 @@ IsReply text (R.Count v4 v6) = After (codes "count ") (Then IsCount IsCount) tex
 IsReply text (R.Close closing) = text ≡ closing_text closing
 
 -- the text spells a line of an installer's input
-abbrev pub IsNote : List ℕ → Note → Type 0
+abbrev pub IsNote : List ℕ → FibInput → Type 0
 IsNote text (N.Have net hop) = After (codes "have ") (Then IsNet IsHop) text (net, hop)
 IsNote text N.Sync = text ≡ codes "sync"
 IsNote text (N.Reply reply) = IsReply text reply
 
 -- the text spells a line of an installer's output
-abbrev pub IsUpdate : List ℕ → Update → Type 0
+abbrev pub IsUpdate : List ℕ → FibUpdate → Type 0
 IsUpdate text (U.Install net hop) = After (codes "install ") (Then IsNet IsHop) text (net, hop)
 IsUpdate text (U.Remove net) = After (codes "remove ") IsNet text net
 IsUpdate text U.Done = text ≡ codes "ok"
 
 -- the line of an operation
-abbrev pub update_for : Operation → Update
+abbrev pub update_for : Operation → FibUpdate
 update_for (O.Install net hop) = U.Install net hop
 update_for (O.Remove net) = U.Remove net
 
@@ -94,13 +94,13 @@ IsPrintable (R.Count v4 v6) = ⊤
 IsPrintable (R.Close closing) = ⊤
 
 -- the printed text of a line of an installer's output
-abbrev pub update_text : Update → List ℕ
+abbrev pub update_text : FibUpdate → List ℕ
 update_text (U.Install net hop) = codes "install " ++ net_text net ++ codes " " ++ hop_text hop
 update_text (U.Remove net) = codes "remove " ++ net_text net
 update_text U.Done = codes "ok"
 
 -- the network, if there is one, has no host bits
-abbrev pub IsPrintableUpdate : Update → Type 0
+abbrev pub IsPrintableUpdate : FibUpdate → Type 0
 IsPrintableUpdate (U.Install net hop) = net ≡ network_at (block net)
 IsPrintableUpdate (U.Remove net) = net ≡ network_at (block net)
 IsPrintableUpdate U.Done = ⊤

@@ -13,18 +13,18 @@ ghost use Rattle.route_table.specs.declared.between.Operation.{Operation};
 ghost use Rattle.route_lines.specs.Spelled.{command_of, note_of, reply_of, update_of};
 ghost use Rattle.route_lines.specs.Texts.{IsCommand, IsNote, IsPrintable, IsPrintableUpdate, IsReply, IsUpdate, update_for, update_text};
 ghost use Rattle.route_lines.specs.declared.command.Command.{Command};
-ghost use Rattle.route_lines.specs.declared.note.Note.{Note};
-ghost use Rattle.route_lines.specs.declared.note.Note.TheVariants as Notes;
+ghost use Rattle.route_lines.specs.declared.fib_input.FibInput.{FibInput};
+ghost use Rattle.route_lines.specs.declared.fib_input.FibInput.TheVariants as Notes;
 ghost use Rattle.route_lines.specs.declared.reply.Reply.{Reply};
-ghost use Rattle.route_lines.specs.declared.update.Update.{Update};
+ghost use Rattle.route_lines.specs.declared.fib_update.FibUpdate.{FibUpdate};
 ghost use Rattle.route_lines.specs.Lines.{kept_of, answers, fed_all, rest_in, rest_of, lines_in};
 
 use crate::NotALine;
 use crate::command::Command;
 use crate::cutter::Rest;
-use crate::note::Note;
+use crate::fib_input::FibInput;
+use crate::fib_update::FibUpdate;
 use crate::reply::{Closing, Reply};
-use crate::update::Update;
 
 /// A new cutter that is fed any bytes returns their lines in order: `Text` for each line of at most 80 bytes, and `TooLong` for any
 /// other. `rest` returns whether there are bytes after the last line end. So the results depend only on the bytes, not on how they were
@@ -76,7 +76,7 @@ pub fn notes()
     ensures cut { (text : List ℕ) (net : IpNet) (hop : Hop) → IsNote text (Notes.Have net hop) → net ≡ network_at (block net) }
     ensures found { Finds IsNote note_of }
     ensures replies { (text : List ℕ) (r : Reply) → (note_of text ≡ Some (Notes.Reply r)) ↔ (reply_of text ≡ Some r) }
-    ensures apart { (text : List ℕ) (a : Note) (r : Reply) → IsNote text a → IsReply text r → a ≡ Notes.Reply r }
+    ensures apart { (text : List ℕ) (a : FibInput) (r : Reply) → IsNote text a → IsReply text r → a ≡ Notes.Reply r }
 {}
 
 /// A text spells at most one line of an installer's output, and then has at most 70 bytes and no line end. Each such line that can be
@@ -84,7 +84,7 @@ pub fn notes()
 /// line that a text spells.
 pub fn updates()
     ensures grammar { IsGrammar IsUpdate 70 }
-    ensures printable { (text : List ℕ) (a : Update) → IsUpdate text a → IsPrintableUpdate a }
+    ensures printable { (text : List ℕ) (a : FibUpdate) → IsUpdate text a → IsPrintableUpdate a }
     ensures operations { (o : Operation) → IsPrintableUpdate (update_for o) ↔ (network_of o ≡ network_at (block (network_of o))) }
     ensures found { Finds IsUpdate update_of }
 {}
@@ -99,8 +99,8 @@ pub fn printed_updates()
 pub fn equality()
     ensures commands { IsPlain ⟦<Command as PartialEq>⟧.eq ⟦<Command as Clone>⟧.is_clone ⟦<Command as Clone>⟧.is_infallible }
     ensures replies { IsPlain ⟦<Reply as PartialEq>⟧.eq ⟦<Reply as Clone>⟧.is_clone ⟦<Reply as Clone>⟧.is_infallible }
-    ensures notes { IsPlain ⟦<Note as PartialEq>⟧.eq ⟦<Note as Clone>⟧.is_clone ⟦<Note as Clone>⟧.is_infallible }
-    ensures updates { IsPlain ⟦<Update as PartialEq>⟧.eq ⟦<Update as Clone>⟧.is_clone ⟦<Update as Clone>⟧.is_infallible }
+    ensures notes { IsPlain ⟦<FibInput as PartialEq>⟧.eq ⟦<FibInput as Clone>⟧.is_clone ⟦<FibInput as Clone>⟧.is_infallible }
+    ensures updates { IsPlain ⟦<FibUpdate as PartialEq>⟧.eq ⟦<FibUpdate as Clone>⟧.is_clone ⟦<FibUpdate as Clone>⟧.is_infallible }
     ensures closings { IsPlain ⟦<Closing as PartialEq>⟧.eq ⟦<Closing as Clone>⟧.is_clone ⟦<Closing as Clone>⟧.is_infallible }
     ensures rests { IsPlain ⟦<Rest as PartialEq>⟧.eq ⟦<Rest as Clone>⟧.is_clone ⟦<Rest as Clone>⟧.is_infallible }
     ensures errors { IsPlain ⟦<NotALine as PartialEq>⟧.eq ⟦<NotALine as Clone>⟧.is_clone ⟦<NotALine as Clone>⟧.is_infallible }

@@ -3,10 +3,10 @@
 
 pub use command::Command;
 pub use cutter::{Line, LineCutter, Rest, line_text};
-pub use note::Note;
+pub use fib_input::FibInput;
+pub use fib_update::FibUpdate;
 pub use reply::{Closing, Reply};
 use thiserror::Error;
-pub use update::Update;
 
 /// The text isn't a line of the grammar.
 #[derive(Clone, Copy, Debug, PartialEq, Eq, Error)]
@@ -15,9 +15,9 @@ pub struct NotALine;
 
 mod command;
 mod cutter;
+mod fib_input;
+mod fib_update;
 pub mod laws;
-mod note;
 mod phrase;
 mod printer;
 mod reply;
-mod update;

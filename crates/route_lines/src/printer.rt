@@ -9,8 +9,8 @@ ghost use Rattle.route_lines.specs.Texts.{IsCommand, IsPrintable, IsPrintableUpd
 ghost use Rattle.route_lines.specs.Words.{IsHop};
 
 use crate::command::Command;
+use crate::fib_update::FibUpdate;
 use crate::reply::Reply;
-use crate::update::Update;
 use arrayvec::ArrayVec;
 use ipnet::IpNet;
 use itoa::{Buffer, Integer};
@@ -144,7 +144,7 @@ impl Reply {
     }
 }
 
-impl Update {
+impl FibUpdate {
     /// Returns the text of the line, with its line end; it reads as this line. The network, if there is one, must have no host bits. Does
     /// not allocate.
     ///
@@ -152,7 +152,7 @@ impl Update {
     /// `text_is` and `row_is` compare their last two arguments:
     ///
     /// ```rust
-    /// match Update::read(text.as_bytes()) {
+    /// match FibUpdate::read(text.as_bytes()) {
     ///     Ok(update) => text_is(rt, text, update.print().as_slice(), expected),
     ///     Err(_) => row_is(rt, text, "", expected),
     /// }
@@ -189,9 +189,9 @@ impl Update {
     {
         out.clear();
         match self {
-            Update::Install { net, hop } => push_route(out, b"install ", net, *hop),
-            Update::Remove { net } => push_net_after(out, b"remove ", net),
-            Update::Done => push_all(out, b"ok"),
+            FibUpdate::Install { net, hop } => push_route(out, b"install ", net, *hop),
+            FibUpdate::Remove { net } => push_net_after(out, b"remove ", net),
+            FibUpdate::Done => push_all(out, b"ok"),
         }
     }
 }

@@ -22,7 +22,7 @@ use Rattle.route_choices.proofs.Kept.{In-from_filter, In-map, In-filter, map_In}
 use Rattle.route_laws.specs.Networks.{routes_of}
 use Rattle.route_laws.proofs.Matches.{bools_same}
 use Rattle.route_table.specs.InnerLeast.{entries_of}
-use Rattle.route_table.specs.InnerSides.{stored_at, stored_in}
+use Rattle.route_table.specs.InnerFamilyTables.{stored_at, stored_in}
 use Rattle.route_table.proofs.Entries.{get_of, in_entries}
 use Rattle.route_table.proofs.Stores.{string_or_not}
 use Rattle.route_table.proofs.Strings.{string_of_block}

@@ -22,12 +22,12 @@ use Rattle.route_choices.proofs.Kept.{all_kept, filter_map_swap}
 use Rattle.route_laws.specs.Networks.{Stored, best_route, choices_at, routes_of}
 use Rattle.route_laws.specs.Tables.{match_of, item_of}
 use Rattle.route_table.specs.Tries.{map_of}
-use Rattle.route_table.specs.InnerSides.{IsStored, block_at, stored_at, stored_in}
+use Rattle.route_table.specs.InnerFamilyTables.{IsStored, block_at, stored_at, stored_in}
 use Rattle.route_laws.specs.Onwards.{count_of}
 use Rattle.ipnet_addr.proofs.Families.{test_from_family}
 use Rattle.route_table.proofs.Searches.{no_match_at, match_at}
 use Rattle.route_laws.proofs.Networks.{at_member, at_none}
-use Rattle.route_table.proofs.Seams.{has_stored, in_side, is_side}
+use Rattle.route_table.proofs.FamilyMap.{has_stored, in_side, is_side}
 use Rattle.route_table.proofs.Strings.{string_of_block, block_at_is_block}
 use Rattle.route_table.proofs.Walked.{network_of_key}
 

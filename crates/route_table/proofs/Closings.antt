@@ -5,22 +5,22 @@ use Rattle.std.proofs.lemmas.Bool.Decides.{nat_tests}
 use Rattle.ipnet_addr.proofs.Members.{In}
 use Rattle.ipnet_blocks.specs.declared.aggregate.Span.{Span}
 use Rattle.route_laws.specs.Tables.{Route}
-use Rattle.route_table.specs.InnerReaches.{Reach, Run}
+use Rattle.route_table.specs.InnerRouteSpans.{RouteSpan, Run}
 use Rattle.route_table.specs.declared.runs.Runs.{Runs}
 use Rattle.route_table.specs.declared.runs.Step.TheVariants as step
-use Rattle.route_table.specs.InnerRunning.{reach_of, topmost, coming, innermost, over, from_on, hops_left, ArePlaced, AreRuns, changes_left, StepsRun, IsPast, joined, step_of}
+use Rattle.route_table.specs.InnerRunning.{route_span_of, topmost, coming, innermost, over, from_on, hops_left, ArePlaced, AreRuns, changes_left, StepsRun, IsPast, joined, step_of}
 use Rattle.route_table.proofs.PaintedRuns.{IsSpanOf, EndsBefore}
 use Rattle.route_table.proofs.Openings.{last_of, popped, inner_pushed, in_turn, ends_within, ends_from, closed_are, closed_here, closed_later, family_closes}
-use Rattle.route_table.proofs.Turns.{turned, hops_are, placed_as, changes_as, gap_few, hand_from, ends_from_hand}
+use Rattle.route_table.proofs.RunSteps.{turned, hops_are, placed_as, changes_as, gap_few, hand_from, ends_from_hand}
 
-far_from : (n : Option Reach) (rs : List Route) (stack : List Reach) (at end last : ℕ) → ArePlaced stack (coming n rs) at end → MatchOption n (Unit {0}) (λ r. last < r.first) → (r : Reach) → In r (coming n rs) → last < r.first
+far_from : (n : Option RouteSpan) (rs : List Route) (stack : List RouteSpan) (at end last : ℕ) → ArePlaced stack (coming n rs) at end → MatchOption n (Unit {0}) (λ r. last < r.first) → (r : RouteSpan) → In r (coming n rs) → last < r.first
 far_from None rs stack at end last p h r i = absurd i
-far_from (Some s) rs stack at end last p h r i = ⊎_elim (λ (q : r ≡ s). subst (λ (a : Reach). last < a.first) (sym q) h) (λ j. let o = in_turn stack s (map reach_of rs) at end p r j in omega arith) i
+far_from (Some s) rs stack at end last p h r i = ⊎_elim (λ (q : r ≡ s). subst (λ (a : RouteSpan). last < a.first) (sym q) h) (λ j. let o = in_turn stack s (map route_span_of rs) at end p r j in omega arith) i
 
 module _ {P R : Type 0} (w v : Runs P R) (a : AreRuns w) (going : w.done ≡ false) (last : ℕ) (number : Option ℕ) (inner : (last, number) ≡ innermost (w.end, None) w.stack.items)
     (apart : MatchOption w.next (Unit {0}) (λ r. last < r.first))
     (end : v.end ≡ w.end) (next : v.next ≡ w.next) (rest : v.rest ≡ w.rest) where
-  far : (r : Reach) → In r (coming w.next w.rest) → last < r.first
+  far : (r : RouteSpan) → In r (coming w.next w.rest) → last < r.first
   far = far_from w.next w.rest w.stack.items w.at w.end last a.placed apart
 
   left : coming v.next v.rest ≡ coming w.next w.rest
@@ -33,7 +33,7 @@ module _ {P R : Type 0} (w v : Runs P R) (a : AreRuns w) (going : w.done ≡ fal
   place_before = ap (λ d. cond d (w.end + 1) w.at) going
 
   -- a route closes
-  module _ (still : v.done ≡ w.done) (at : v.at ≡ last + 1) (taken : v.stack.items ≡ take (length w.stack.items - 1) w.stack.items) (os : List Reach) (t : Reach) (split : w.stack.items ≡ os ++ t ∷ []) (l : last < w.end) where
+  module _ (still : v.done ≡ w.done) (at : v.at ≡ last + 1) (taken : v.stack.items ≡ take (length w.stack.items - 1) w.stack.items) (os : List RouteSpan) (t : RouteSpan) (split : w.stack.items ≡ os ++ t ∷ []) (l : last < w.end) where
     abbrev here : ℕ × Option ℕ
     here = (last, number)
 
@@ -52,7 +52,7 @@ module _ {P R : Type 0} (w v : Runs P R) (a : AreRuns w) (going : w.done ≡ fal
     placed : ArePlaced (os ++ t ∷ []) (coming w.next w.rest) w.at w.end
     placed = subst (λ rs. ArePlaced rs (coming w.next w.rest) w.at w.end) split a.placed
 
-    far' : (r : Reach) → In r (coming w.next w.rest) → t.last < r.first
+    far' : (r : RouteSpan) → In r (coming w.next w.rest) → t.last < r.first
     far' r i = let f = far r i in omega (arith, top_last)
 
     placed_then : ArePlaced v.stack.items (coming v.next v.rest) v.at v.end
@@ -101,7 +101,7 @@ module _ {P R : Type 0} (w v : Runs P R) (a : AreRuns w) (going : w.done ≡ fal
     inner_end : (w.end, number) ≡ innermost (w.end, None) w.stack.items
     inner_end = (λ i. (sym at_end i, number)) ∙ inner
 
-    far_end : (r : Reach) → In r (coming w.next w.rest) → w.end < r.first
+    far_end : (r : RouteSpan) → In r (coming w.next w.rest) → w.end < r.first
     far_end r i = let f = far r i in omega (arith, at_end)
 
     placed_done : ArePlaced v.stack.items (coming v.next v.rest) v.at v.end
@@ -127,7 +127,7 @@ module _ {P R : Type 0} (w v : Runs P R) (a : AreRuns w) (going : w.done ≡ fal
         (record { placed = placed_done; hand = u.0 }, u.1)
 
   -- a stack whose innermost route ends before the family is not empty
-  split_at : last < w.end → (os : List Reach) × (t : Reach) × (w.stack.items ≡ os ++ t ∷ [])
+  split_at : last < w.end → (os : List RouteSpan) × (t : RouteSpan) × (w.stack.items ≡ os ++ t ∷ [])
   split_at l = ⊎_elim (λ (e : w.stack.items ≡ []). let f : (last, number) ≡ (w.end, None) = inner ∙ ap (innermost (w.end, None)) e in let g : last ≡ w.end = (λ i. (f i).0) in absurd (omega (arith, g))) (λ p. p) (last_of w.stack.items)
 
   module _ (past : IsPast w last v) where

@@ -7,11 +7,11 @@ use Rattle.trie_core.proofs.Strings.{bits_same}
 use Rattle.trie_core.specs.Inside.{outside}
 use Rattle.trie_core.specs.Nodes.{BitMap}
 use Rattle.route_choices.specs.Choices.{Choice}
-use Rattle.route_table.specs.InnerSides.{IsStored, stored_in}
+use Rattle.route_table.specs.InnerFamilyTables.{IsStored, stored_in}
 use Rattle.route_laws.specs.Networks.{Stored, IsStoredTable, networks_outside}
 use Rattle.route_laws.proofs.Overwritten.{networks_placed, outside_is_stored as part_is_stored, outside_back, outside_other}
 use Rattle.ipnet_blocks.proofs.Strings.{inside_from_begins, begins_from_inside}
-use Rattle.route_table.proofs.Seams.{HasStored, has_stored, in_side, is_side, side_is}
+use Rattle.route_table.proofs.FamilyMap.{HasStored, has_stored, in_side, is_side, side_is}
 
 module _ (b : Block) (okb : IsBlock b) (m : BitMap (List Choice)) (ok : IsStored b.family m) (n : BitMap (List Choice)) (e : n ≡ outside m (bit_string b)) where
   abbrev side : List Stored

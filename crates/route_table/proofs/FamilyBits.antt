@@ -15,7 +15,7 @@ use Rattle.least_table.specs.InnerOrders.{ComesBeforeAll, IsInOrder}
 use Rattle.least_table.specs.Tables as bits
 use Rattle.trie_core.specs.Bits.{number_from}
 use Rattle.trie_core.proofs.Numbers.{number_bound, number-digits, one_power}
-use Rattle.route_laws.specs.Fewest.{handed, hop_under, GivesInside}
+use Rattle.route_laws.specs.Fewest.{inherited, hop_under, GivesInside}
 use Rattle.route_laws.specs.Tables.{Route, IsTable, covering, longer, longest, match_of}
 use Rattle.route_laws.proofs.Families.{in_family}
 use Rattle.route_laws.proofs.Insides.{Sooner, sound, rising, has_from_test, test_from_has}
@@ -65,7 +65,7 @@ match_entry x a (r ∷ M) ok = go (is_inside (host x) r.block) same (match_entry
     go true t k = rw (t, k) (longer_entry r (match_of M (host x)))
     go false t k = rw t k
 
-hop_entry : (s : Option ℕ) (m : Option Route) → bits.hop_of s (option_map entry_of m) ≡ handed s m
+hop_entry : (s : Option ℕ) (m : Option Route) → bits.hop_of s (option_map entry_of m) ≡ inherited s m
 hop_entry s None = refl
 hop_entry s (Some r) = refl
 

@@ -27,7 +27,7 @@ use Rattle.route_laws.proofs.Networks.{routes_are_table}
 use Rattle.route_laws.proofs.Painted.{Changes, changes_from}
 use Rattle.route_table.specs.Given.{AreFamilies}
 use Rattle.route_table.specs.InnerLeast.{entries_of, entry_of}
-use Rattle.route_table.specs.InnerSides.{IsSide, block_at}
+use Rattle.route_table.specs.InnerFamilyTables.{IsFamilyTable, block_at}
 use Rattle.route_table.specs.InnerUpdates.{blocks_in, installed_route, operations_of, overwritten_all, routes_in}
 use Rattle.route_table.proofs.FamilyBits.{AllOf, blocks_of, family_gives, gives_bits, order_entries, table_entries}
 use Rattle.route_table.proofs.NewRoutes.{new_all, new_entries, new_is_table, new_missing, new_routes, removed_blocks}
@@ -35,7 +35,7 @@ use Rattle.route_table.proofs.Overlaid.{told_bits}
 use Rattle.route_table.proofs.PartBits.{bits_of, length-between, part, part_all, part_four, part_six, parts_no_more, surplus_bits}
 
 -- the routes of a side, as bit strings
-pub side_bits : (f : Family) (T : List Stored) → IsSide f T
+pub side_bits : (f : Family) (T : List Stored) → IsFamilyTable f T
     → bits.IsTable (width f) (entries_of (routes_of T)) × IsInOrder (entries_of (routes_of T))
 side_bits f T side =
     let t = routes_are_table T side.table in

@@ -23,9 +23,9 @@ use Rattle.route_laws.proofs.FlatBounds.{flat_bound}
 use Rattle.route_laws.proofs.Flats.{flat_is_shortest}
 use Rattle.route_table.specs.Given.{AreFamilies, IsFlatOf}
 use Rattle.route_table.specs.InnerFlattening.{piece_of, pieces_of, pieces_left, hops_in, hops_of, AreBoth}
-use Rattle.route_table.specs.InnerRunning.{IsFirstRun, hops_left, topmost, reach_of}
+use Rattle.route_table.specs.InnerRunning.{IsFirstRun, hops_left, topmost, route_span_of}
 use Rattle.route_table.specs.declared.flat.BothRuns.{BothRuns}
-use Rattle.route_table.specs.InnerReaches.{Run}
+use Rattle.route_table.specs.InnerRouteSpans.{Run}
 use Rattle.route_table.specs.declared.runs.Runs.{Runs}
 use Rattle.route_table.proofs.FlatRuns.{IsFirstSpan, IsPastSpan, first_then_rest, flat_of_same, no_pieces}
 use Rattle.std.proofs.lemmas.Option.{none-some}
@@ -138,10 +138,10 @@ table_left rs ss t = table_of rs (λ r i. sound (rs ++ ss) t r (In-left r rs ss 
 pub table_right : (rs ss : List Route) → IsTable (rs ++ ss) → IsTable ss
 table_right rs ss t = table_of ss (λ r i. sound (rs ++ ss) t r (In-right r rs ss i)) (rising_back Sooner rs ss (rising (rs ++ ss) t))
 
-abbrev OfFamily : Family → List Route → Type 0
-OfFamily f rs = All (λ (r : Route). r.block.family ≡ f) rs
+abbrev FamilyNet : Family → List Route → Type 0
+FamilyNet f rs = All (λ (r : Route). r.block.family ≡ f) rs
 
-module _ (rs ss : List Route) (table : IsTable (rs ++ ss)) (ipv4 : OfFamily Ipv4 rs) (ipv6 : OfFamily Ipv6 ss) where
+module _ (rs ss : List Route) (table : IsTable (rs ++ ss)) (ipv4 : FamilyNet Ipv4 rs) (ipv6 : FamilyNet Ipv6 ss) where
   is_four : (r : Route) → In r rs → r.block.family ≡ Ipv4
   is_four r i = In-from_All (λ (s : Route). s.block.family ≡ Ipv4) rs ipv4 r i
 
@@ -151,7 +151,7 @@ module _ (rs ss : List Route) (table : IsTable (rs ++ ss)) (ipv4 : OfFamily Ipv4
   apart : (f : Family) → f ≡ Ipv4 → f ≡ Ipv6 → ⊥
   apart f p q = let e = ap rank (sym p ∙ q) in omega arith
 
-  pub both_paint : (h g : ℕ → Option ℕ) → ((x : ℕ) → h x ≡ topmost None (map reach_of rs) x) → ((x : ℕ) → g x ≡ topmost None (map reach_of ss) x) → (x : Address) → IsAddress x → hops_in h g x.family x.number ≡ hop_at (rs ++ ss) x
+  pub both_paint : (h g : ℕ → Option ℕ) → ((x : ℕ) → h x ≡ topmost None (map route_span_of rs) x) → ((x : ℕ) → g x ≡ topmost None (map route_span_of ss) x) → (x : Address) → IsAddress x → hops_in h g x.family x.number ≡ hop_at (rs ++ ss) x
   both_paint h g p q x a = at x.family x.number a
     where
       at : (f : Family) (y : ℕ) → IsAddress (record { family = f; number = y }) → hops_in h g f y ≡ hop_at (rs ++ ss) (record { family = f; number = y })
@@ -160,7 +160,7 @@ module _ (rs ss : List Route) (table : IsTable (rs ++ ss)) (ipv4 : OfFamily Ipv4
       at Ipv6 y a = q y ∙ topmost_is (rs ++ ss) table Ipv6 ss (rising_back Sooner rs ss (rising (rs ++ ss) table))
           (λ r i. (In-right r rs ss i, is_six r i)) (λ r i e. ⊎_elim (λ j. absurd (apart r.block.family (is_four r j) e)) (λ j. j) (In-cases r rs ss i)) (record { family = Ipv6; number = y }) a refl
 
-  pub whole_flat : (p : Pieces) (w : BothRuns) → pieces_of p ≡ [] → ((x : ℕ) → hops_left w.v4 x ≡ topmost None (map reach_of rs) x) → ((x : ℕ) → hops_left w.v6 x ≡ topmost None (map reach_of ss) x) → IsFlat (hop_at (rs ++ ss)) (pieces_left p w)
+  pub whole_flat : (p : Pieces) (w : BothRuns) → pieces_of p ≡ [] → ((x : ℕ) → hops_left w.v4 x ≡ topmost None (map route_span_of rs) x) → ((x : ℕ) → hops_left w.v6 x ≡ topmost None (map route_span_of ss) x) → IsFlat (hop_at (rs ++ ss)) (pieces_left p w)
   whole_flat p w none h g = subst (IsFlat (hop_at (rs ++ ss))) (ap (λ ps. ps ++ flat_of (hops_of w)) (sym none)) (flat_of_same (hops_of w) (hop_at (rs ++ ss)) (both_paint (hops_left w.v4) (hops_left w.v6) h g))
 
 -- the families of a table, seen alone

@@ -11,7 +11,7 @@ use Rattle.trie_core.specs.Nodes.{BitMap}
 use Rattle.trie_core.specs.Search.{IsLongest, NoBeginning}
 use Rattle.route_choices.specs.Choices.{Choice, best_hop, has_none}
 use Rattle.route_choices.specs.Hops.{number_of}
-use Rattle.route_table.specs.InnerSides.{IsStored, block_at, stored_in}
+use Rattle.route_table.specs.InnerFamilyTables.{IsStored, block_at, stored_in}
 use Rattle.route_laws.specs.Networks.{Stored, choices_at, routes_of}
 use Rattle.route_laws.specs.Tables.{match_number, match_of}
 use Rattle.route_table.proofs.Searches.{match_at, no_match_at}

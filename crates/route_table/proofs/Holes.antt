@@ -23,7 +23,7 @@ use Rattle.route_laws.proofs.Insides.{sound}
 use Rattle.route_laws.proofs.NetworksAt.{block_of-net_in, of_network_at}
 use Rattle.route_table.specs.InnerGoverning.{GovernsNone}
 use Rattle.route_table.specs.InnerLeast.{address_at, entries_of}
-use Rattle.route_table.specs.InnerSides.{IsSide, block_at}
+use Rattle.route_table.specs.InnerFamilyTables.{IsFamilyTable, block_at}
 use Rattle.route_table.proofs.FamilyBits.{AllOf}
 use Rattle.route_table.proofs.FlatPieces.{begins_host, bits_at, has_begun}
 use Rattle.route_table.proofs.Stores.{string_or_not}
@@ -103,7 +103,7 @@ module _ (f : Family) (M : List Route) (table : IsTable M) (all : AllOf f M) (s 
       )
 
 -- all routes of a side are of its family
-pub routes_in_family : (f : Family) (T : List Stored) → IsSide f T → AllOf f (routes_of T)
+pub routes_in_family : (f : Family) (T : List Stored) → IsFamilyTable f T → AllOf f (routes_of T)
 routes_in_family f T side r i = let u = In-map best_route T r i in ap (λ (q : Route). q.block.family) u.2 ∙ In-from_All (λ (t : Stored). t.block.family ≡ f) T side.family u.0 u.1
 
 -- the block of the key with these bits

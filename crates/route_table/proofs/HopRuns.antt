@@ -25,7 +25,7 @@ use Rattle.route_table.specs.InnerRunning.{IsFirstRun, hops_left}
 use Rattle.route_table.specs.declared.flat.BothRuns.{BothRuns}
 use Rattle.route_table.specs.declared.hop_run.HopRun.{HopRun}
 use Rattle.route_table.specs.declared.hop_run.HopRun.TheVariants.{V4, V6}
-use Rattle.route_table.specs.InnerReaches.{Run}
+use Rattle.route_table.specs.InnerRouteSpans.{Run}
 use Rattle.route_table.specs.declared.runs.Runs.{Runs}
 use Rattle.route_table.proofs.Flattenings.{next_ipv4, next_ipv6}
 

@@ -4,10 +4,10 @@ use Rattle.std.specs.FinMap.{get, insert}
 use Rattle.ipnet_blocks.specs.Blocks.{Block, IsBlock, bit_string}
 use Rattle.trie_core.specs.Nodes.{BitMap}
 use Rattle.route_choices.specs.Choices.{Choice, AreChoices}
-use Rattle.route_table.specs.InnerSides.{IsStored, stored_in}
+use Rattle.route_table.specs.InnerFamilyTables.{IsStored, stored_in}
 use Rattle.route_laws.specs.Networks.{Stored, choices_at, with_choices}
 use Rattle.route_laws.proofs.Networks.{put_same}
-use Rattle.route_table.proofs.Seams.{is_side}
+use Rattle.route_table.proofs.FamilyMap.{is_side}
 use Rattle.route_table.proofs.Stores.{put_is_stored, put_choices, some_at}
 
 module _ (b : Block) (okb : IsBlock b) (m : BitMap (List Choice)) (ok : IsStored b.family m) (key : List Bool) (k : key ≡ bit_string b) (old new : List Choice) (was : get m key ≡ Some old) where

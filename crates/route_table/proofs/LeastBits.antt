@@ -21,7 +21,7 @@ use Rattle.route_choices.specs.declared.hop.Hop.{Hop}
 use Rattle.route_choices.proofs.Kept.{In-map, map_In, map_append}
 use Rattle.route_laws.specs.Fewest.{GivesInside, IsFewest}
 use Rattle.route_table.specs.InnerLeast.{ArePieces, AreLeast, AreLeastOf, entries_of, items_of}
-use Rattle.route_table.specs.InnerSides.{block_at}
+use Rattle.route_table.specs.InnerFamilyTables.{block_at}
 use Rattle.route_laws.specs.LeastTables.{IsLeast, routes_for}
 use Rattle.route_laws.specs.Tables.{Route, IsTable, route_of}
 use Rattle.route_laws.proofs.Families.{least_of_families}

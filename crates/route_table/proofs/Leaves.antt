@@ -18,11 +18,11 @@ use Rattle.trie_core.specs.Nodes.{BitMap}
 use Rattle.trie_core.proofs.Leaves.{goes_on}
 use Rattle.route_choices.specs.Choices.{Choice}
 use Rattle.route_choices.proofs.Kept.{In-map}
-use Rattle.route_table.specs.InnerSides.{IsStored, block_at, stored_in, IsSide}
+use Rattle.route_table.specs.InnerFamilyTables.{IsStored, block_at, stored_in, IsFamilyTable}
 use Rattle.route_laws.specs.Networks.{IsLeaf, Stored, best_route, routes_of}
 use Rattle.route_laws.specs.Tables.{Governed, Route}
-use Rattle.route_table.proofs.Seams.{has_stored, in_side}
-use Rattle.route_table.proofs.Sides.{side}
+use Rattle.route_table.proofs.FamilyMap.{has_stored, in_side}
+use Rattle.route_table.proofs.FamilyTables.{side}
 use Rattle.route_table.proofs.Strings.{block_at_is_block, same_string, string_of_block}
 
 -- ---- in the map of a side
@@ -57,7 +57,7 @@ module _ (n : Block) (okn : IsBlock n) (m : BitMap (List Choice)) (ok : IsStored
 
 -- ---- in a table of both families
 
-module _ (a b : List Stored) (sides : IsSide Ipv4 a × IsSide Ipv6 b) where
+module _ (a b : List Stored) (sides : IsFamilyTable Ipv4 a × IsFamilyTable Ipv6 b) where
   of_its_side : (f : Family) (s : Stored) → In s (a ++ b) → s.block.family ≡ f → In s (side a b sides f)
   of_its_side Ipv4 s i e = ⊎_elim (λ j. j) (λ j. absurd (let z = sym e ∙ In-from_All (λ (s : Stored). s.block.family ≡ Ipv6) b sides.1.family s j in cc)) (In-cases s a b i)
   of_its_side Ipv6 s i e = ⊎_elim (λ j. absurd (let z = sym e ∙ In-from_All (λ (s : Stored). s.block.family ≡ Ipv4) a sides.0.family s j in cc)) (λ j. j) (In-cases s a b i)

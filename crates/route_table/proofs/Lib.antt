@@ -2,7 +2,7 @@ pub mod Strings
 pub mod Entries
 pub mod Outcomes
 pub mod Room
-pub mod Seams
+pub mod FamilyMap
 pub mod Searches
 pub mod Stores
 pub mod Asked
@@ -13,14 +13,14 @@ pub mod Walked
 pub mod Parts
 pub mod Gaps
 pub mod Governings
-pub mod Sides
+pub mod FamilyTables
 pub mod Leaves
 pub mod Emptied
 pub mod PaintedRuns
 pub mod Openings
 pub mod Painted
-pub mod Reaches
-pub mod Turns
+pub mod RouteSpans
+pub mod RunSteps
 pub mod Closings
 pub mod Shortcuts
 pub mod FlatRuns
@@ -35,7 +35,7 @@ pub mod NewRoutes
 pub mod Overlaid
 pub mod FewestUpdates
 pub mod LeastBits
-pub mod Looks
+pub mod BetweenSteps
 pub mod Paints
 pub mod UpdateRows
 pub mod Updating

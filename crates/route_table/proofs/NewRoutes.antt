@@ -20,7 +20,7 @@ use Rattle.route_laws.proofs.Fewest.{number_from_hop}
 use Rattle.route_laws.proofs.Insides.{Sound, sound, table_of}
 use Rattle.route_laws.proofs.Ordered.{not_cases}
 use Rattle.route_table.specs.InnerLeast.{entry_of, entries_of}
-use Rattle.route_table.specs.InnerSides.{block_at}
+use Rattle.route_table.specs.InnerFamilyTables.{block_at}
 use Rattle.route_table.specs.InnerUpdates.{installed_route, routes_in}
 use Rattle.route_table.proofs.FamilyBits.{AllOf, Blocks, lengths, rising_entries}
 use Rattle.route_table.proofs.PartBits.{bits_of, held_bits, part, part_all, same_entry, string-true}

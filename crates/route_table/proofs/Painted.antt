@@ -11,8 +11,8 @@ use Rattle.ipnet_blocks.proofs.Maximals.{host_is_block, in_host, has_host, membe
 use Rattle.ipnet_blocks.proofs.Netmasks.{block_is_interval}
 use Rattle.route_choices.specs.Hops.{number_of}
 use Rattle.route_laws.specs.Tables.{Route, IsTable, IsMatch, match_of, match_number, hop_at}
-use Rattle.route_table.specs.InnerRunning.{IsApartOrInside, IsOpen, IsComing, ArePlaced, reach_of, topmost}
-use Rattle.route_table.specs.InnerReaches.{Reach}
+use Rattle.route_table.specs.InnerRunning.{IsApartOrInside, IsOpen, IsComing, ArePlaced, route_span_of, topmost}
+use Rattle.route_table.specs.InnerRouteSpans.{RouteSpan}
 use Rattle.route_table.proofs.Governings.{first_to_last}
 use Rattle.route_laws.proofs.Matches.{block_in, match_from, match_meets}
 use Rattle.route_table.proofs.PaintedRuns.{lies, lies_before, lies_after}
@@ -46,7 +46,7 @@ module _ (x : ℕ) where
       (λ l. ⊎_elim (λ (m : last r.block < x). lies_after (first r.block) (last r.block) x m) (λ m. absurd (h (l, m))) (cases_lt (last r.block) x))
       (cases_lt x (first r.block)))
 
-  pub last_paints : (rs : List Route) (k : Option ℕ) → Rising Sooner rs → IsLast rs k (topmost k (map reach_of rs) x)
+  pub last_paints : (rs : List Route) (k : Option ℕ) → Rising Sooner rs → IsLast rs k (topmost k (map route_span_of rs) x)
   unfolding paint
   last_paints [] k up = inl ((λ r i h. i), refl)
   last_paints (r ∷ rs) k up = ⊎_elim
@@ -79,7 +79,7 @@ module _ (M : List Route) (table : IsTable M) (f : Family) (rs : List Route) (up
       (λ i. longer_inside r.block s.block ks (sym fam) i)
       (nested s.block r.block x ks kr hs hr)
 
-  pub topmost_is : (x : Address) → IsAddress x → x.family ≡ f → topmost None (map reach_of rs) x.number ≡ hop_at M x
+  pub topmost_is : (x : Address) → IsAddress x → x.family ≡ f → topmost None (map route_span_of rs) x.number ≡ hop_at M x
   topmost_is x a e = ⊎_elim
       (λ none. none.1 ∙ sym (go (match_of M (host x)) refl none.0))
       (λ t.
@@ -108,7 +108,7 @@ module _ (M : List Route) (table : IsTable M) (f : Family) (rs : List Route) (up
 -- ---- the routes of a family, before any of them opens
 
 module _ (f : Family) (end : ℕ) (rs : List Route) (up : Rising Sooner rs) (blocks : (r : Route) → In r rs → IsBlock r.block × (r.block.family ≡ f)) (top : 2 ^ width f ≡ end + 1) where
-  follow : (r s : Route) → In r rs → In s rs → Sooner r s → IsApartOrInside (reach_of r) (reach_of s)
+  follow : (r s : Route) → In r rs → In s rs → Sooner r s → IsApartOrInside (route_span_of r) (route_span_of s)
   follow r s i j before =
       let kr = (blocks r i).0 in
       let ks = (blocks s j).0 in
@@ -132,7 +132,7 @@ module _ (f : Family) (end : ℕ) (rs : List Route) (up : Rising Sooner rs) (blo
             (b.2, long);
       }
 
-  coming_at : (r : Route) → In r rs → IsComing 0 end (reach_of r)
+  coming_at : (r : Route) → In r rs → IsComing 0 end (route_span_of r)
   coming_at r i =
       let k = (blocks r i).0 in
       let y : Address = record { family = r.block.family; number = last r.block } in
@@ -144,24 +144,24 @@ module _ (f : Family) (end : ℕ) (rs : List Route) (up : Rising Sooner rs) (blo
       within_all Ipv4 = omega arith
       within_all Ipv6 = omega arith
 
-  in_reaches : (y : Reach) (ss : List Route) → In y (map reach_of ss) → (r : Route) × In r ss × (y ≡ reach_of r)
+  in_reaches : (y : RouteSpan) (ss : List Route) → In y (map route_span_of ss) → (r : Route) × In r ss × (y ≡ route_span_of r)
   in_reaches y [] i = absurd i
   in_reaches y (r ∷ ss) i = ⊎_elim (λ e. (r, inl refl, e)) (λ j. let t = in_reaches y ss j in (t.0, inr t.1, t.2)) i
 
-  rising_reaches : (ss : List Route) → ((r : Route) → In r ss → In r rs) → Rising Sooner ss → Rising IsApartOrInside (map reach_of ss)
+  rising_reaches : (ss : List Route) → ((r : Route) → In r ss → In r rs) → Rising Sooner ss → Rising IsApartOrInside (map route_span_of ss)
   rising_reaches [] inc up' = tt
   rising_reaches (r ∷ ss) inc up' = (
-    (λ y i. let t = in_reaches y ss i in subst (λ (z : Reach). IsApartOrInside (reach_of r) z) (sym t.2) (follow r t.0 (inc r (inl refl)) (inc t.0 (inr t.1)) (up'.0 t.0 t.1))),
+    (λ y i. let t = in_reaches y ss i in subst (λ (z : RouteSpan). IsApartOrInside (route_span_of r) z) (sym t.2) (follow r t.0 (inc r (inl refl)) (inc t.0 (inr t.1)) (up'.0 t.0 t.1))),
     rising_reaches ss (λ s i. inc s (inr i)) up'.1,
   )
 
-  pub placed_first : ArePlaced [] (map reach_of rs) 0 end
+  pub placed_first : ArePlaced [] (map route_span_of rs) 0 end
   placed_first = record {
     order = omega arith;
     opened = All-from_In (IsOpen 0 end) [] (λ r i. absurd i);
     nested = λ i j d l m. absurd (omega arith);
-    coming' = All-from_In (IsComing 0 end) (map reach_of rs) (λ y i. let t = in_reaches y rs i in subst (λ (z : Reach). IsComing 0 end z) (sym t.2) (coming_at t.0 t.1));
-    follow = pairs_from_Rising IsApartOrInside (map reach_of rs) (rising_reaches rs (λ r i. i) up);
+    coming' = All-from_In (IsComing 0 end) (map route_span_of rs) (λ y i. let t = in_reaches y rs i in subst (λ (z : RouteSpan). IsComing 0 end z) (sym t.2) (coming_at t.0 t.1));
+    follow = pairs_from_Rising IsApartOrInside (map route_span_of rs) (rising_reaches rs (λ r i. i) up);
   }
 
 -- the greatest number of a whole family

@@ -4,7 +4,7 @@ use Rattle.std.proofs.lemmas.Bool.{cases_lt, and_from, and_left, and_right, cond
 use Rattle.std.proofs.lemmas.Bool.Decides.{nat_tests}
 use Rattle.std.proofs.lemmas.Option.{none-some}
 use Rattle.ipnet_blocks.specs.declared.aggregate.Span.{Span}
-use Rattle.route_table.specs.InnerReaches.{Run}
+use Rattle.route_table.specs.InnerRouteSpans.{Run}
 use Rattle.route_table.specs.InnerRunning.{over, joined, IsFirstRun}
 
 -- ---- whether a number lies between two

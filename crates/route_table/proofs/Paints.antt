@@ -12,7 +12,7 @@ use Rattle.route_laws.specs.Networks.{Stored, best_route, networks_outside, rout
 use Rattle.route_laws.specs.Overwritten.{overwritten, without_inside}
 use Rattle.route_laws.specs.Painted.{painted}
 use Rattle.route_laws.specs.Tables.{Route, IsTable, item_of, match_number, match_of}
-use Rattle.route_laws.proofs.Handed.{handed_by_parent}
+use Rattle.route_laws.proofs.Inherited.{inherited_from_parent}
 use Rattle.route_laws.proofs.NetworksAt.{of_network_at}
 
 -- the number at a match, by the item of the match
@@ -37,10 +37,10 @@ same_test M d b h o p e f g =
     (λ i. same_number (match_number (match_of (without_inside M (sym e i)) (sym e i))) (number_of h)) ∙ (λ i. same_number (sym f i) (sym g i)) ∙ sym (tests_same o p)
 
 -- what is handed down to a network is the match of its supernet
-pub handed_through : (M : List Route) → IsTable M → (n up : IpNet) → IsBlock (block n) → 0 < (parts n).len → up ≡ network_at (parent (block n))
+pub inherited_through : (M : List Route) → IsTable M → (n up : IpNet) → IsBlock (block n) → 0 < (parts n).len → up ≡ network_at (parent (block n))
     → match_number (match_of M (block up)) ≡ match_number (match_of (without_inside M (block n)) (block n))
-handed_through M t n up ok l e =
-    ap (λ d. match_number (match_of M d)) (ap block e ∙ of_network_at (parent (block n))) ∙ ap match_number (sym (handed_by_parent M t (block n) ok l))
+inherited_through M t n up ok l e =
+    ap (λ d. match_number (match_of M d)) (ap block e ∙ of_network_at (parent (block n))) ∙ ap match_number (sym (inherited_from_parent M t (block n) ok l))
 
 -- the routes of the networks outside
 pub routes_outside : (T : List Stored) (b : Block) → routes_of (networks_outside T b) ≡ without_inside (routes_of T) b

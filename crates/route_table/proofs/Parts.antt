@@ -18,14 +18,14 @@ use Rattle.ipnet_blocks.specs.BitStrings.{begins, bits_cmp}
 use Rattle.route_choices.specs.Choices.{Choice}
 use Rattle.route_choices.proofs.Kept.{In-from_filter, filter_map_swap, same_kept}
 use Rattle.route_laws.specs.Tables.{Route, covering, routes_inside}
-use Rattle.route_table.specs.InnerSides.{route_at, stored_in, block_at, IsStored}
+use Rattle.route_table.specs.InnerFamilyTables.{route_at, stored_in, block_at, IsStored}
 use Rattle.route_laws.specs.Networks.{routes_of}
 use Rattle.route_table.specs.InnerEntries.{KeysUpTo}
 use Rattle.route_laws.specs.Onwards.{routes_from, routes_after}
 use Rattle.route_laws.proofs.Matches.{bools_same, inside_from_test, test_from_inside}
 use Rattle.route_table.proofs.Strings.{string_of_block, block_at_is_block}
 use Rattle.route_table.proofs.Entries.{get_of}
-use Rattle.route_table.proofs.Seams.{routes_at}
+use Rattle.route_table.proofs.FamilyMap.{routes_at}
 
 -- ---- the order of blocks, as a test of keys
 

@@ -16,9 +16,9 @@ use Rattle.route_laws.specs.Tables.{Route, IsTable, match_of}
 use Rattle.route_laws.proofs.Matches.{match_meets, match_from}
 use Rattle.trie_core.specs.Search.{NoBeginning, IsLongest}
 use Rattle.trie_core.specs.Nodes.{BitMap}
-use Rattle.route_table.specs.InnerSides.{IsStored, stored_in}
+use Rattle.route_table.specs.InnerFamilyTables.{IsStored, stored_in}
 use Rattle.route_laws.proofs.Networks.{routes_are_table}
-use Rattle.route_table.proofs.Seams.{HasStored, has_stored, in_side, is_side}
+use Rattle.route_table.proofs.FamilyMap.{HasStored, has_stored, in_side, is_side}
 
 module _ (n : Block) (okn : IsBlock n) (m : BitMap (List Choice)) (ok : IsStored n.family m) where
   abbrev side : List Stored

@@ -9,12 +9,12 @@ use Rattle.ipnet_blocks.proofs.Strings.{length-digits}
 use Rattle.trie_core.specs.Nodes.{BitMap}
 use Rattle.trie_core.proofs.Strings.{bits_total, same, same-Decides, same_false}
 use Rattle.route_choices.specs.Choices.{Choice, AreChoices}
-use Rattle.route_table.specs.InnerSides.{IsStored, stored_in}
+use Rattle.route_table.specs.InnerFamilyTables.{IsStored, stored_in}
 use Rattle.route_laws.specs.Networks.{Stored, IsStoredTable, choices_at, with_choices, with_stored, without_stored}
 use Rattle.route_table.proofs.Calls.{choices_are}
 use Rattle.route_laws.proofs.Networks.{with_is, without_is}
 use Rattle.route_laws.proofs.Ordered.{same_or_not, put_back, put_itself, put_other, gone_back, gone_other}
-use Rattle.route_table.proofs.Seams.{HasStored, has_stored, in_side, is_side, side_is, stored_path}
+use Rattle.route_table.proofs.FamilyMap.{HasStored, has_stored, in_side, is_side, side_is, stored_path}
 use Rattle.route_table.proofs.Strings.{same_string}
 
 pub string_or_not : (s t : List Bool) → (s ≡ t) ⊎ (s ≡ t → ⊥)

@@ -9,7 +9,7 @@ use Rattle.ipnet_blocks.proofs.Strings.{length-digits, digits_apart}
 use Rattle.trie_core.specs.Bits.{number_from}
 use Rattle.trie_core.proofs.Numbers.{number_bound, number-digits}
 use Rattle.trie_core.proofs.Longer.{own_digits}
-use Rattle.route_table.specs.InnerSides.{block_at}
+use Rattle.route_table.specs.InnerFamilyTables.{block_at}
 
 pub string_of_block : (f : Family) (s : List Bool) → bit_string (block_at f s) ≡ s
 string_of_block f s = own_digits s

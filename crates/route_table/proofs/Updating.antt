@@ -26,14 +26,14 @@ use Rattle.route_laws.specs.Overwritten.{overwritten}
 use Rattle.route_laws.specs.Painted.{AreChanges}
 use Rattle.route_laws.specs.Tables.{Route, route_of}
 use Rattle.route_table.specs.InnerLeast.{entry_of, entries_of}
-use Rattle.route_table.specs.InnerSides.{block_at}
+use Rattle.route_table.specs.InnerFamilyTables.{block_at}
 use Rattle.route_table.specs.InnerUpdates.{AddsInstalls, AddsRemoves, AreTruncated, AreWithin, GivesPath, blocks_in, installed_route, overwritten_all, routes_in}
 use Rattle.route_table.specs.Operations.{network_of, operation_of}
 use Rattle.route_table.specs.declared.between.Operation as Given
 use Rattle.route_table.specs.declared.between.Operation.TheVariants as One
 use Rattle.route_laws.proofs.NetworksAt.{of_network_at}
 use Rattle.route_table.proofs.Asked.{longest_none}
-use Rattle.route_table.proofs.Looks.{is_truncated}
+use Rattle.route_table.proofs.BetweenSteps.{is_truncated}
 use Rattle.route_table.proofs.Strings.{network_of_string}
 use Rattle.trie_core.specs.Bits.{number_from}
 

@@ -9,7 +9,7 @@ use Rattle.ipnet.specs.IpNets.{block, net_in, network_at}
 use Rattle.trie_core.specs.Bits.{number_from}
 use Rattle.route_choices.specs.Choices.{Choice}
 use Rattle.route_choices.specs.declared.hop.Hop.{Hop}
-use Rattle.route_table.specs.InnerSides.{block_at, route_at}
+use Rattle.route_table.specs.InnerFamilyTables.{block_at, route_at}
 use Rattle.route_table.specs.InnerEntries.{GivesBest, KeysUpTo}
 use Rattle.route_table.specs.Items.{GivesRoute}
 use Rattle.route_laws.proofs.NetworksAt.{of_network_at}

@@ -9,8 +9,8 @@ use Rattle.route_choices.specs.Choices.{Choice, best_hop, best_preference}
 use Rattle.route_choices.specs.declared.hop.Hop.{Hop}
 use Rattle.route_laws.specs.Tables.{Route}
 use Rattle.route_table.specs.Items.{GivesRoute}
-use Rattle.route_table.specs.declared.side_routes.Entries.{Entries}
-use Rattle.route_table.specs.declared.side_routes.Entries.TheVariants.{Cover, Hops, Owned, Walk}
+use Rattle.route_table.specs.declared.family_routes.Entries.{Entries}
+use Rattle.route_table.specs.declared.family_routes.Entries.TheVariants.{Cover, Hops, Owned, Walk}
 
 -- no key is longer than n bits
 abbrev pub KeysUpTo : ℕ → List (List Bool × List Choice) → Type 0

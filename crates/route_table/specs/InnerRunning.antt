@@ -4,27 +4,27 @@ use Rattle.ipnet_blocks.specs.Blocks.{first, last}
 use Rattle.ipnet_blocks.specs.declared.aggregate.Span.{Span}
 use Rattle.route_choices.specs.Hops.{number_of}
 use Rattle.route_laws.specs.Tables.{Route}
-use Rattle.route_table.specs.InnerReaches.{Reach, Run}
+use Rattle.route_table.specs.InnerRouteSpans.{RouteSpan, Run}
 use Rattle.route_table.specs.declared.runs.Runs.{Runs}
 use Rattle.route_table.specs.declared.runs.Step.{Step}
 use Rattle.route_table.specs.declared.runs.Step.TheVariants as step
 
 -- the span of a route's addresses, its length, and the number of its hop
-abbrev pub reach_of : Route → Reach
-reach_of r = record { first = first r.block; last = last r.block; len = r.block.len; number = number_of r.hop }
+abbrev pub route_span_of : Route → RouteSpan
+route_span_of r = record { first = first r.block; last = last r.block; len = r.block.len; number = number_of r.hop }
 
 -- the hop number of x when each route is painted over those before it: that of the last route at x, or k
-abbrev pub topmost : Option ℕ → List Reach → ℕ → Option ℕ
+abbrev pub topmost : Option ℕ → List RouteSpan → ℕ → Option ℕ
 topmost k [] x = k
 topmost k (r ∷ rs) x = topmost (cond (nat_le r.first x && nat_le x r.last) r.number k) rs x
 
 -- the routes that follow: the next one and those after it
-abbrev pub coming : Option Reach → List Route → List Reach
+abbrev pub coming : Option RouteSpan → List Route → List RouteSpan
 coming None rs = []
-coming (Some r) rs = r ∷ map reach_of rs
+coming (Some r) rs = r ∷ map route_span_of rs
 
 -- the end of the innermost open route, and its number
-abbrev pub innermost : ℕ × Option ℕ → List Reach → ℕ × Option ℕ
+abbrev pub innermost : ℕ × Option ℕ → List RouteSpan → ℕ × Option ℕ
 innermost k [] = k
 innermost k (r ∷ rs) = innermost (r.last, r.number) rs
 
@@ -42,26 +42,26 @@ abbrev pub hops_left : {P R : Type 0} → Runs P R → ℕ → Option ℕ
 hops_left w x = over w.run (from_on w.done w.at (topmost None (w.stack.items ++ coming w.next w.rest)) x) x
 
 -- the later of two routes is disjoint from the earlier one, or inside it
-pub record IsApartOrInside (a b : Reach) : Type 0 where
+pub record IsApartOrInside (a b : RouteSpan) : Type 0 where
   pub order : a.first ≤ b.first
   pub inside : b.first ≤ a.last → (b.last ≤ a.last) × (a.len < b.len)
 
 -- a route is open at a place, or ended just before it
-pub record IsOpen (at end : ℕ) (r : Reach) : Type 0 where
+pub record IsOpen (at end : ℕ) (r : RouteSpan) : Type 0 where
   pub begun : r.first ≤ at
   pub ends : at ≤ r.last + 1
   pub fits : r.last ≤ end
   pub long : r.len ≤ 128
 
 -- a route begins at a place or later
-pub record IsComing (at end : ℕ) (r : Reach) : Type 0 where
+pub record IsComing (at end : ℕ) (r : RouteSpan) : Type 0 where
   pub later : at ≤ r.first
   pub some : r.first ≤ r.last
   pub fits : r.last ≤ end
   pub long : r.len ≤ 128
 
 -- the open routes and those that follow, at a place
-pub record ArePlaced (stack coming : List Reach) (at end : ℕ) : Type 0 where
+pub record ArePlaced (stack coming : List RouteSpan) (at end : ℕ) : Type 0 where
   pub order : at ≤ end
   pub opened : All (IsOpen at end) stack
   pub nested : AllPairs (λ a b. (b.last ≤ a.last) × (a.len < b.len)) stack
@@ -91,7 +91,7 @@ abbrev pub GivesRun : {P R : Type 0} → Runs P R → Option Run → Runs P R �
 GivesRun w run v = MatchOption run (((x : ℕ) → hops_left w x ≡ None) × ((x : ℕ) → hops_left v x ≡ None)) (λ r. IsFirstRun (hops_left w) r (hops_left v) × (r.span.last ≤ w.end))
 
 -- 1 if there are numbers between the place and the next route, else 0
-abbrev pub gap : ℕ → Option Reach → ℕ
+abbrev pub gap : ℕ → Option RouteSpan → ℕ
 gap at None = 0
 gap at (Some r) = cond (nat_lt at r.first) 1 0
 

@@ -15,7 +15,7 @@ use Rattle.route_laws.specs.Overwritten.{overwritten}
 use Rattle.route_laws.specs.Tables.{Route}
 use Rattle.route_table.specs.Given.{AreFamilies}
 use Rattle.route_table.specs.InnerLeast.{entries_of}
-use Rattle.route_table.specs.InnerSides.{block_at}
+use Rattle.route_table.specs.InnerFamilyTables.{block_at}
 use Rattle.route_table.specs.Operations.{network_of, operation_of}
 use Rattle.route_table.specs.declared.between.Operation as Given
 

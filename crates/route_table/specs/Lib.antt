@@ -4,11 +4,11 @@ pub mod Items
 pub mod Operations
 pub mod Given
 pub mod InnerFamilies
-pub mod InnerSides
+pub mod InnerFamilyTables
 pub mod InnerEntries
 pub mod InnerRoutes
 pub mod InnerGoverning
-pub mod InnerReaches
+pub mod InnerRouteSpans
 pub mod InnerRunning
 pub mod InnerFlattening
 pub mod InnerOwning

@@ -3,28 +3,28 @@ ghost use Rattle.ipnet_blocks.specs.Blocks.{IsBlock};
 ghost use Rattle.ipnet_blocks.specs.Networks.{block_of};
 ghost use Rattle.route_laws.specs.Networks.{routes_of};
 ghost use Rattle.route_table.specs.InnerGoverning.{GivesSpan, GovernsNone};
-ghost use Rattle.route_table.specs.InnerSides.{IsSide};
+ghost use Rattle.route_table.specs.InnerFamilyTables.{IsFamilyTable};
 
-use crate::family::OfFamily;
+use crate::family::FamilyNet;
+use crate::family_routes::FamilyRoutes;
+use crate::family_table::FamilyTable;
 use crate::governed::span;
-use crate::side::Side;
-use crate::side_routes::SideRoutes;
 use ipnet_blocks::aggregate::Span;
 
 /// The length of the next network, and the numbers of its addresses.
-fn next_span<P: OfFamily>(routes: &mut SideRoutes<'_, P>) -> Option<(u8, Span)>
+fn next_span<P: FamilyNet>(routes: &mut FamilyRoutes<'_, P>) -> Option<(u8, Span)>
     ensures { GivesSpan routes.old result routes.new }
 {
     let (net, _, _) = routes.next_net()?;
     Some((net.prefix_len(), span(&net.ip_net())))
 }
 
-impl<P: OfFamily> Side<P, 1> {
+impl<P: FamilyNet> FamilyTable<P, 1> {
     /// Whether the network governs no address. The walk of the routes inside ends at the first gap.
     pub(crate) fn governs_none(&self, net: P) -> bool
         requires { IsBlock (block_of P.family (P.parts net)) }
         ensures none { GovernsNone result (routes_of self.now) (block_of P.family (P.parts net)) }
-        ensures side { IsSide P.family self.now }
+        ensures side { IsFamilyTable P.family self.now }
     {
         let whole = span(&net.ip_net());
         let mut at = whole.first;

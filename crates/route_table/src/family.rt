@@ -10,7 +10,7 @@ use ipnet::{IpNet, Ipv4Net, Ipv6Net};
 use prefix_trie::Prefix;
 
 /// The networks of one family, as keys of a trie.
-pub(crate) trait OfFamily: Prefix + Copy + Drop {
+pub(crate) trait FamilyNet: Prefix + Copy + Drop {
     ghost family: { Family };
 
     /// The number of a network's address, and its length.
@@ -37,7 +37,7 @@ pub(crate) trait OfFamily: Prefix + Copy + Drop {
     ghost parts_are: { (s : List Bool) → parts (Self.of_bits s) ≡ record { number = number_from (width family) s; len = length s } };
 }
 
-impl OfFamily for Ipv4Net {
+impl FamilyNet for Ipv4Net {
     ghost family = { Ipv4 };
 
     ghost parts = { λ n. n };
@@ -65,7 +65,7 @@ impl OfFamily for Ipv4Net {
     }
 }
 
-impl OfFamily for Ipv6Net {
+impl FamilyNet for Ipv6Net {
     ghost family = { Ipv6 };
 
     ghost parts = { λ n. n };

@@ -9,9 +9,9 @@ ghost use Rattle.route_laws.specs.Tables.{hop_at};
 ghost use Rattle.route_table.specs.Given.{AreFamilies, IsFlatOf};
 
 use crate::address_family::AddressFamily;
+use crate::family_routes::FamilyRoutes;
 use crate::governed::{blocks, no_blocks};
 use crate::runs::Runs;
-use crate::side_routes::SideRoutes;
 use crate::table::RouteTable;
 use ipnet::{IpNet, IpSubnets, Ipv4Net, Ipv6Net};
 use std::marker::Model;
@@ -98,7 +98,7 @@ impl<'a> Model for Flat<'a> {
 
 impl<'a> Flat<'a> {
     /// The flat list of a table with these IPv4 and IPv6 routes, each ascending.
-    pub(crate) fn new(v4: SideRoutes<'a, Ipv4Net>, v6: SideRoutes<'a, Ipv6Net>) -> Flat<'a>
+    pub(crate) fn new(v4: FamilyRoutes<'a, Ipv4Net>, v6: FamilyRoutes<'a, Ipv6Net>) -> Flat<'a>
         requires { AreFamilies (v4 ++ v6) v4 v6 }
         ensures { IsFlat (hop_at (v4.entry ++ v6.entry)) result }
     {

@@ -5,7 +5,7 @@ ghost use Rattle.route_laws.specs.Flats.{Piece, flat_of};
 ghost use Rattle.route_table.specs.InnerFlattening.{AreBoth, hops_of};
 ghost use Rattle.route_table.specs.Items.{BeginsWithRun, GivesHopRun};
 
-use crate::family::OfFamily;
+use crate::family::FamilyNet;
 use crate::flat::{BothRuns, Flat};
 use ipnet::IpNet;
 

@@ -13,7 +13,7 @@ ghost use Rattle.route_laws.specs.LeastTables.{IsLeast, routes_for};
 ghost use Rattle.route_laws.specs.Networks.{routes_of};
 ghost use Rattle.route_laws.specs.Tables.{hop_at};
 
-use crate::family::OfFamily;
+use crate::family::FamilyNet;
 use crate::flat::Flat;
 use crate::hop_table::HopTable;
 use crate::table::RouteTable;
@@ -92,7 +92,7 @@ impl Iterator for LeastRoutes {
 }
 
 /// The routes of a least table of one family with the hops of the planned pieces.
-fn fewest<P: OfFamily>(plan: Planner<P>) -> Result<Routes<P>, AllocError>
+fn fewest<P: FamilyNet>(plan: Planner<P>) -> Result<Routes<P>, AllocError>
     requires { (ps : List (List Bool × ℕ)) × HasPlanned P.R.width plan ps }
     ensures { IfOk result (λ table. (ps : List (List Bool × ℕ)) → HasPlanned P.R.width plan ps → AreLeast P.family ps (items_of P.family P.parts table)) }
 {

@@ -3,7 +3,7 @@ ghost use Rattle.std.specs.Prelude.{◌≡◌, ◌≤◌, [], ◌∷◌, Some, N
 ghost use Rattle.ipnet_addr.specs.Addresses.{width};
 ghost use Rattle.ipnet_blocks.specs.BitStrings.{begins};
 
-use crate::family::OfFamily;
+use crate::family::FamilyNet;
 use nearest_table::tables::Table;
 use prefix_trie::{Prefix, prefix_of};
 use trie_core::Path;
@@ -11,12 +11,12 @@ use trie_core::Path;
 /// One change of a family, as the search for nearest tables sees it: a table of one route. It takes no allocation. Host bits of the
 /// network don't count.
 #[derive(Drop)]
-pub(crate) struct OneChange<P: OfFamily> {
+pub(crate) struct OneChange<P: FamilyNet> {
     pub(crate) net: P,
     pub(crate) hop: Option<u32>,
 }
 
-impl<P: OfFamily> OneChange<P> {
+impl<P: FamilyNet> OneChange<P> {
     /// The hop, if the network contains the block.
     fn told(&self, block: &Path) -> Option<Option<u32>>
         requires { length block.now ≤ width P.family }
@@ -30,7 +30,7 @@ impl<P: OfFamily> OneChange<P> {
     }
 }
 
-impl<P: OfFamily> Table for OneChange<P> {
+impl<P: FamilyNet> Table for OneChange<P> {
     ghost width = { width P.family };
 
     ghost routes = { λ c. (P.bits c.net, c.hop) ∷ [] };

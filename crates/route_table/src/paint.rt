@@ -47,7 +47,7 @@ impl HopTable {
         ensures absent { OnErr result (choices_at self.old (block net) ≡ []) }
     {
         let net = cleared(&net);
-        if self.handed(&net) == hop.number() {
+        if self.inherited(&net) == hop.number() {
             self.remove_inside(&net);
             return Ok(());
         }
@@ -55,7 +55,7 @@ impl HopTable {
     }
 
     /// The number of the hop that the network's addresses inherit from the routes outside it.
-    pub(crate) fn handed(&self, net: &IpNet) -> Option<u32>
+    pub(crate) fn inherited(&self, net: &IpNet) -> Option<u32>
         requires { IsBlock (block net.now) }
         ensures { IsTable (routes_of self.now) → result ≡ match_number (match_of (without_inside (routes_of self.now) (block net.now)) (block net.now)) }
     {

@@ -4,7 +4,7 @@ ghost use Rattle.std.specs.Iterator.{item_count};
 ghost use Rattle.route_table.specs.InnerRoutes.{routes_left};
 ghost use Rattle.route_table.specs.Items.{GivesRoute};
 
-use crate::side_routes::SideRoutes;
+use crate::family_routes::FamilyRoutes;
 use ipnet::{IpNet, Ipv4Net, Ipv6Net};
 use route_choices::Hop;
 use std::marker::Model;
@@ -12,8 +12,8 @@ use std::marker::Model;
 /// The routes that are left, of one side.
 #[derive(Drop)]
 pub(crate) enum Source<'a> {
-    V4(SideRoutes<'a, Ipv4Net>),
-    V6(SideRoutes<'a, Ipv6Net>),
+    V4(FamilyRoutes<'a, Ipv4Net>),
+    V6(FamilyRoutes<'a, Ipv6Net>),
 }
 
 /// An iterator over routes, ascending: each network, without host bits, its best hop, and the preference of this hop. Does not
@@ -35,7 +35,7 @@ impl<'a> Model for Routes<'a> {
 
 impl<'a> Routes<'a> {
     /// An iterator over IPv4 routes.
-    pub(crate) fn v4(routes: SideRoutes<'a, Ipv4Net>) -> Routes<'a>
+    pub(crate) fn v4(routes: FamilyRoutes<'a, Ipv4Net>) -> Routes<'a>
         ensures { result ≡ routes.entry }
     {
         Routes {
@@ -44,7 +44,7 @@ impl<'a> Routes<'a> {
     }
 
     /// An iterator over IPv6 routes.
-    pub(crate) fn v6(routes: SideRoutes<'a, Ipv6Net>) -> Routes<'a>
+    pub(crate) fn v6(routes: FamilyRoutes<'a, Ipv6Net>) -> Routes<'a>
         ensures { result ≡ routes.entry }
     {
         Routes {

@@ -2,12 +2,12 @@
 ghost use Rattle.std.specs.Prelude.{◌≡◌, ℕ, ◌+◌, ◌<◌, ◌≤◌, ◌^◌, ◌++◌, [], ◌∷◌, MatchOption, All, None, Some, map, false, true, ⊤};
 ghost use Rattle.ipnet_addr.specs.Addresses.{width};
 ghost use Rattle.ipnet_blocks.specs.Blocks.{last, family_block};
-ghost use Rattle.route_table.specs.InnerRunning.{AreRuns, GivesRun, IsPast, StepsRun, coming, hops_left, innermost, joined, topmost, reach_of, step_of};
+ghost use Rattle.route_table.specs.InnerRunning.{AreRuns, GivesRun, IsPast, StepsRun, coming, hops_left, innermost, joined, topmost, route_span_of, step_of};
 ghost use Rattle.route_laws.specs.Tables.{IsTable};
 
-use crate::family::OfFamily;
-use crate::place::Place;
-use crate::side_routes::SideRoutes;
+use crate::address_number::AddressNumber;
+use crate::family::FamilyNet;
+use crate::family_routes::FamilyRoutes;
 use arrayvec::ArrayVec;
 use ipnet_addr::key::Key;
 use ipnet_blocks::aggregate::Span;
@@ -16,41 +16,41 @@ use std::marker::Model;
 
 /// The span of a route's addresses, its length, and the number of its hop.
 #[derive(Copy)]
-struct Reach<N: Key> {
-    first: Place<N>,
-    last: Place<N>,
+struct RouteSpan<N: Key> {
+    first: AddressNumber<N>,
+    last: AddressNumber<N>,
     number: Option<u32>,
     len: u8,
 }
 
-impl<N: Key> Model for Reach<N> {
-    ghost use Rattle.route_table.specs.InnerReaches.{Reach};
+impl<N: Key> Model for RouteSpan<N> {
+    ghost use Rattle.route_table.specs.InnerRouteSpans.{RouteSpan};
 
-    ghost Value = { Reach };
+    ghost Value = { RouteSpan };
 
     ghost view = { λ a. record { first = a.first; last = a.last; len = a.len; number = a.number } };
 
     ghost inverse = { λ r. record { first = r.first; last = r.last; len = r.len; number = r.number } };
 }
 
-impl<N: Key> Clone for Reach<N> {
+impl<N: Key> Clone for RouteSpan<N> {
     ghost is_clone = { λ r s. s ≡ r };
 
     ghost is_infallible = { λ _. ⊤ };
 
-    fn clone(&self) -> Result<Reach<N>, AllocError> {
+    fn clone(&self) -> Result<RouteSpan<N>, AllocError> {
         Ok(*self)
     }
 }
 
 /// The default stands in for a free place of the stack.
-impl<N: Key> Default for Reach<N> {
+impl<N: Key> Default for RouteSpan<N> {
     ghost is_default = { λ _. ⊤ };
 
-    fn default() -> Reach<N> {
-        Reach {
-            first: Place::of(0),
-            last: Place::of(0),
+    fn default() -> RouteSpan<N> {
+        RouteSpan {
+            first: AddressNumber::of(0),
+            last: AddressNumber::of(0),
             len: 0,
             number: None,
         }
@@ -60,13 +60,13 @@ impl<N: Key> Default for Reach<N> {
 /// A span whose addresses have one hop number.
 #[derive(Copy)]
 pub(crate) struct Run<N: Key> {
-    first: Place<N>,
-    last: Place<N>,
+    first: AddressNumber<N>,
+    last: AddressNumber<N>,
     number: u32,
 }
 
 impl<N: Key> Model for Run<N> {
-    ghost use Rattle.route_table.specs.InnerReaches.{Run};
+    ghost use Rattle.route_table.specs.InnerRouteSpans.{Run};
 
     ghost Value = { Run };
 
@@ -101,7 +101,7 @@ impl<N: Key> Run<N> {
 
     /// The run extended to end at this number.
     #[inline]
-    fn up_to(&self, last: Place<N>) -> Run<N>
+    fn up_to(&self, last: AddressNumber<N>) -> Run<N>
         ensures { result ≡ record { span = record { first = self.now.span.first; last = last }; number = self.now.number } }
     {
         Run {
@@ -122,13 +122,13 @@ impl<N: Key> Run<N> {
 
 /// Takes the next route.
 #[inline]
-fn next_reach<P: OfFamily>(routes: &mut SideRoutes<'_, P>) -> Option<Reach<P::R>>
-    ensures { coming result routes.new ≡ map reach_of routes.old }
+fn next_route_span<P: FamilyNet>(routes: &mut FamilyRoutes<'_, P>) -> Option<RouteSpan<P::R>>
+    ensures { coming result routes.new ≡ map route_span_of routes.old }
 {
     let (net, hop, _) = routes.next_net()?;
-    Some(Reach {
-        first: Place::of_key(net.first_key()),
-        last: Place::of_key(net.last_key()),
+    Some(RouteSpan {
+        first: AddressNumber::of_key(net.first_key()),
+        last: AddressNumber::of_key(net.last_key()),
         len: net.prefix_len(),
         number: hop.number(),
     })
@@ -137,14 +137,14 @@ fn next_reach<P: OfFamily>(routes: &mut SideRoutes<'_, P>) -> Option<Reach<P::R>
 /// A walk over the routes of one family. It holds the routes that are open at a place, the routes that follow, and the run that ends
 /// just before the place.
 #[derive(Drop)]
-pub(crate) struct Runs<'a, P: OfFamily> {
-    at: Place<P::R>,
-    end: Place<P::R>,
+pub(crate) struct Runs<'a, P: FamilyNet> {
+    at: AddressNumber<P::R>,
+    end: AddressNumber<P::R>,
     done: bool,
     run: Option<Run<P::R>>,
-    stack: ArrayVec<Reach<P::R>, 129>,
-    next: Option<Reach<P::R>>,
-    rest: SideRoutes<'a, P>,
+    stack: ArrayVec<RouteSpan<P::R>, 129>,
+    next: Option<RouteSpan<P::R>>,
+    rest: FamilyRoutes<'a, P>,
 }
 
 /// The effect of a step on the runs.
@@ -158,8 +158,8 @@ enum Step<N: Key> {
 #[inline]
 fn join<N: Key>(
     run: &mut Option<Run<N>>,
-    first: Place<N>,
-    last: Place<N>,
+    first: AddressNumber<N>,
+    last: AddressNumber<N>,
     number: Option<u32>,
 ) -> Step<N>
     ensures run { run.new ≡ (joined run.old (record { first = first; last = last }) number).1 }
@@ -188,8 +188,8 @@ fn join<N: Key>(
 fn follow<N: Key>(
     run: &mut Option<Run<N>>,
     before: Run<N>,
-    first: Place<N>,
-    last: Place<N>,
+    first: AddressNumber<N>,
+    last: AddressNumber<N>,
     number: u32,
 ) -> Step<N>
     ensures run { run.new ≡ (joined (Some before) (record { first = first; last = last }) (Some number)).1 }
@@ -219,18 +219,18 @@ fn step_of<N: Key>(ended: Option<Run<N>>) -> Step<N>
     }
 }
 
-impl<'a, P: OfFamily> Runs<'a, P> {
+impl<'a, P: FamilyNet> Runs<'a, P> {
     /// Makes the walk over the routes of a family.
-    pub(crate) fn new(rest: SideRoutes<'a, P>) -> Runs<'a, P>
+    pub(crate) fn new(rest: FamilyRoutes<'a, P>) -> Runs<'a, P>
         requires routes { IsTable rest }
         requires family { All (λ r. r.block.family ≡ P.family) rest }
         ensures runs { AreRuns result }
         ensures end { result.end ≡ last (family_block P.family) }
-        ensures hops { (x : ℕ) → hops_left result x ≡ topmost None (map reach_of rest.entry) x }
+        ensures hops { (x : ℕ) → hops_left result x ≡ topmost None (map route_span_of rest.entry) x }
     {
         let mut runs = Runs {
-            at: Place::of(0),
-            end: Place::greatest(),
+            at: AddressNumber::of(0),
+            end: AddressNumber::greatest(),
             done: false,
             run: None,
             stack: ArrayVec::new(),
@@ -248,14 +248,14 @@ impl<'a, P: OfFamily> Runs<'a, P> {
         ensures done { self.new.done ≡ self.old.done }
         ensures run { self.new.run ≡ self.old.run }
         ensures stack { self.new.stack ≡ self.old.stack }
-        ensures next { coming self.new.next self.new.rest ≡ map reach_of self.old.rest }
+        ensures next { coming self.new.next self.new.rest ≡ map route_span_of self.old.rest }
     {
-        self.next = next_reach(&mut self.rest);
+        self.next = next_route_span(&mut self.rest);
     }
 
     /// The last number of the innermost open route, or of the family if none is open, and its hop number.
     #[inline]
-    fn innermost(&self) -> (Place<P::R>, Option<u32>)
+    fn innermost(&self) -> (AddressNumber<P::R>, Option<u32>)
         ensures { result ≡ innermost (self.now.end, None) self.now.stack.items }
     {
         match self.stack.as_slice().last() {
@@ -266,7 +266,7 @@ impl<'a, P: OfFamily> Runs<'a, P> {
 
     /// The next route, if it begins at this number or before.
     #[inline]
-    fn next_up_to(&self, last: Place<P::R>) -> Option<Reach<P::R>>
+    fn next_up_to(&self, last: AddressNumber<P::R>) -> Option<RouteSpan<P::R>>
         ensures { MatchOption result (MatchOption self.now.next ⊤ (λ r. last < r.first)) (λ r. (self.now.next ≡ Some r) × (r.first ≤ last)) }
     {
         let reach = self.next?;
@@ -280,7 +280,7 @@ impl<'a, P: OfFamily> Runs<'a, P> {
     /// Handles the next route, which begins before the innermost open route ends. If it has the hop number around it, it changes nothing
     /// and is skipped. Else the walk advances to its start, or opens it if it is there.
     #[inline]
-    fn begin(&mut self, reach: Reach<P::R>, number: Option<u32>) -> Step<P::R>
+    fn begin(&mut self, reach: RouteSpan<P::R>, number: Option<u32>) -> Step<P::R>
         requires runs { AreRuns self.old }
         requires going { self.old.done ≡ false }
         requires next { self.old.next ≡ Some reach }
@@ -298,7 +298,7 @@ impl<'a, P: OfFamily> Runs<'a, P> {
         let first = reach.first;
         if start.number() < first.number() {
             self.at = first;
-            let last = Place::of(first.number() - 1);
+            let last = AddressNumber::of(first.number() - 1);
             return join(&mut self.run, start, last, number);
         }
         self.open(reach)
@@ -306,7 +306,7 @@ impl<'a, P: OfFamily> Runs<'a, P> {
 
     /// Opens the next route, which begins at the place. If it contains no other route, it is closed at once.
     #[inline]
-    fn open(&mut self, reach: Reach<P::R>) -> Step<P::R>
+    fn open(&mut self, reach: RouteSpan<P::R>) -> Step<P::R>
         requires runs { AreRuns self.old }
         requires going { self.old.done ≡ false }
         requires next { self.old.next ≡ Some reach }
@@ -322,7 +322,7 @@ impl<'a, P: OfFamily> Runs<'a, P> {
             return join(&mut self.run, reach.first, reach.last, reach.number);
         }
         // Copied field by field. A copy of the whole would load bytes that were just written in other sizes, and wait for the writes.
-        self.stack.push(Reach {
+        self.stack.push(RouteSpan {
             first: reach.first,
             last: reach.last,
             len: reach.len,
@@ -333,7 +333,7 @@ impl<'a, P: OfFamily> Runs<'a, P> {
 
     /// The number after this one, if the next route begins later than `last` and the family doesn't end there.
     #[inline]
-    fn before_next(&self, last: Place<P::R>) -> Option<Place<P::R>>
+    fn before_next(&self, last: AddressNumber<P::R>) -> Option<AddressNumber<P::R>>
         ensures { MatchOption result ⊤ (λ n. (n ≡ last + 1) × (last < self.now.end) × MatchOption self.now.next ⊤ (λ r. last < r.first)) }
     {
         if self.end.number() <= last.number() {
@@ -341,13 +341,13 @@ impl<'a, P: OfFamily> Runs<'a, P> {
         }
         match self.next_up_to(last) {
             Some(_) => None,
-            None => Some(Place::of(last.number() + 1)),
+            None => Some(AddressNumber::of(last.number() + 1)),
         }
     }
 
     /// Moves past the end of the innermost open route, or of the family.
     #[inline]
-    fn pass(&mut self, last: Place<P::R>)
+    fn pass(&mut self, last: AddressNumber<P::R>)
         ensures end { self.new.end ≡ self.old.end }
         ensures run { self.new.run ≡ self.old.run }
         ensures next { self.new.next ≡ self.old.next }
@@ -355,7 +355,7 @@ impl<'a, P: OfFamily> Runs<'a, P> {
         ensures passed { IsPast self.old last self.new }
     {
         if last.number() < self.end.number() {
-            self.at = Place::of(last.number() + 1);
+            self.at = AddressNumber::of(last.number() + 1);
             self.stack.pop();
         } else {
             self.done = true;
@@ -364,7 +364,7 @@ impl<'a, P: OfFamily> Runs<'a, P> {
 
     /// Closes the innermost open route, or the family, which ends before the next route begins.
     #[inline]
-    fn close(&mut self, last: Place<P::R>, number: Option<u32>) -> Step<P::R>
+    fn close(&mut self, last: AddressNumber<P::R>, number: Option<u32>) -> Step<P::R>
         requires runs { AreRuns self.old }
         requires going { self.old.done ≡ false }
         requires innermost { (last, number) ≡ innermost (self.old.end, None) self.old.stack.items }

@@ -3,13 +3,13 @@ ghost use Rattle.ipnet_addr.specs.Addresses.{width};
 ghost use Rattle.route_laws.specs.Networks.{routes_of};
 ghost use Rattle.route_table.specs.InnerLeast.{entries_of};
 
-use crate::family::OfFamily;
-use crate::side::Side;
+use crate::family::FamilyNet;
+use crate::family_table::FamilyTable;
 use nearest_table::tables::{Installed, Table};
 use prefix_trie::{prefix_of, truncated};
 use trie_core::Path;
 
-impl<P: OfFamily> Table for Side<P, 1> {
+impl<P: FamilyNet> Table for FamilyTable<P, 1> {
     ghost width = { width P.family };
 
     ghost routes = { λ s. entries_of (routes_of s) };
@@ -33,7 +33,7 @@ impl<P: OfFamily> Table for Side<P, 1> {
     }
 }
 
-impl<P: OfFamily> Installed for Side<P, 1> {
+impl<P: FamilyNet> Installed for FamilyTable<P, 1> {
     fn is_covered(&self, block: &Path) -> bool {
         self.governs_none(prefix_of(block))
     }

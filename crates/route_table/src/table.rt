@@ -16,10 +16,10 @@ ghost use Rattle.route_table.specs.Refusals.{IsRefused};
 ghost use Rattle.route_laws.specs.Tables.{Governed as GovernedBy, IsTable, match_number, match_of, routes_inside, item_of};
 ghost use Rattle.route_table.specs.Given.{AreRoutes, IsEmptied};
 
+use crate::family_table::FamilyTable;
 use crate::governed::Governed;
 use crate::refused::AddRefused;
 use crate::routes::Routes;
-use crate::side::Side;
 use ipnet::{IpNet, Ipv4Net, Ipv6Net};
 use prefix_trie::Refused;
 use route_choices::Hop;
@@ -38,22 +38,22 @@ pub type RouteTable = Table<8>;
 /// A table of networks of both families with room for `CAPACITY` routes of each: `RouteTable` has eight, `HopTable` one.
 #[derive(Drop)]
 pub struct Table<const CAPACITY: usize> {
-    pub(crate) v4: Side<Ipv4Net, CAPACITY>,
-    pub(crate) v6: Side<Ipv6Net, CAPACITY>,
+    pub(crate) v4: FamilyTable<Ipv4Net, CAPACITY>,
+    pub(crate) v6: FamilyTable<Ipv6Net, CAPACITY>,
     pub(crate) alloc: Global,
 }
 
 impl<const CAPACITY: usize> Model for Table<CAPACITY> {
     ghost use Rattle.std.specs.Prelude.{List, ◌++◌};
     ghost use Rattle.ipnet_addr.specs.Addresses.{Ipv4, Ipv6};
-    ghost use Rattle.route_table.specs.InnerSides.{IsSide};
+    ghost use Rattle.route_table.specs.InnerFamilyTables.{IsFamilyTable};
     ghost use Rattle.route_laws.specs.Networks.{Stored};
 
     ghost Value = { List Stored };
 
     ghost view = { λ a. a.v4 ++ a.v6 };
 
-    ghost invariant = { λ a. IsSide Ipv4 a.v4 × IsSide Ipv6 a.v6 };
+    ghost invariant = { λ a. IsFamilyTable Ipv4 a.v4 × IsFamilyTable Ipv6 a.v6 };
 }
 
 /// The network without host bits. Each public call clears them once, with this function; the functions below require a block.
@@ -342,8 +342,8 @@ impl<const CAPACITY: usize> Table<CAPACITY> {
         ensures { IsEmptied result }
     {
         Ok(Table {
-            v4: Side::new(alloc)?,
-            v6: Side::new(alloc)?,
+            v4: FamilyTable::new(alloc)?,
+            v6: FamilyTable::new(alloc)?,
             alloc,
         })
     }

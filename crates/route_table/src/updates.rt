@@ -14,17 +14,17 @@ ghost use Rattle.route_laws.specs.Operations.{after, after_all};
 ghost use Rattle.route_laws.specs.Painted.{AreChanges};
 ghost use Rattle.route_laws.specs.Tables.{IsTable};
 ghost use Rattle.route_table.specs.InnerLeast.{entries_of};
-ghost use Rattle.route_table.specs.InnerSides.{IsSide, block_at};
+ghost use Rattle.route_table.specs.InnerFamilyTables.{IsFamilyTable, block_at};
 ghost use Rattle.route_table.specs.InnerUpdates.{AddsInstalls, AddsRemoves, AreEditsFor, AreWithin, GivesPath, MakeBoth, operations_of, overwritten_all, routes_in};
 ghost use Rattle.route_table.specs.Operations.{network_of, operation_of};
 
 use crate::between::Operation;
-use crate::family::OfFamily;
+use crate::family::FamilyNet;
+use crate::family_routes::FamilyRoutes;
+use crate::family_table::FamilyTable;
 use crate::hop_table::HopTable;
 use crate::least::hop_of;
 use crate::one_change::OneChange;
-use crate::side::Side;
-use crate::side_routes::SideRoutes;
 use crate::table::cleared;
 use ipnet::{IpNet, Ipv4Net, Ipv6Net};
 use nearest_table::nearest;
@@ -50,7 +50,7 @@ fn table_of(alloc: Global, changes: &[(IpNet, Hop)]) -> Result<HopTable, Refused
 }
 
 /// The path of the next network.
-fn next_path<P: OfFamily>(routes: &mut SideRoutes<'_, P>) -> Option<Path>
+fn next_path<P: FamilyNet>(routes: &mut FamilyRoutes<'_, P>) -> Option<Path>
     ensures { GivesPath P.family routes.old result routes.new }
 {
     let (net, _, _) = routes.next_net()?;
@@ -58,7 +58,7 @@ fn next_path<P: OfFamily>(routes: &mut SideRoutes<'_, P>) -> Option<Path>
 }
 
 /// The block, or the smallest larger one that contains the other block too.
-fn widened<P: OfFamily>(block: &Path, other: &Path) -> Path
+fn widened<P: FamilyNet>(block: &Path, other: &Path) -> Path
     requires block { length block.now ≤ width P.family }
     requires other { length other.now ≤ width P.family }
     ensures block { IsTrue (begins result block.now) }
@@ -74,8 +74,8 @@ fn widened<P: OfFamily>(block: &Path, other: &Path) -> Path
 }
 
 /// A block that contains all networks of a side, or none if it has none.
-fn around<P: OfFamily>(side: &Side<P, 1>) -> Option<Path>
-    requires { IsSide P.family side.now }
+fn around<P: FamilyNet>(side: &FamilyTable<P, 1>) -> Option<Path>
+    requires { IsFamilyTable P.family side.now }
     ensures { MatchOption result (routes_of side.now ≡ []) (λ b. (length b ≤ width P.family) × AreInside (width P.family) b (entries_of (routes_of side.now))) }
 {
     let mut routes = side.iter();
@@ -87,13 +87,13 @@ fn around<P: OfFamily>(side: &Side<P, 1>) -> Option<Path>
 }
 
 /// The fewest edits of one side that give the addresses their hops after the changes.
-fn edits_of<P: OfFamily>(
+fn edits_of<P: FamilyNet>(
     alloc: Global,
-    installed: &Side<P, 1>,
-    changes: &Side<P, 1>,
+    installed: &FamilyTable<P, 1>,
+    changes: &FamilyTable<P, 1>,
 ) -> Result<Vec<Edit>, AllocError>
-    requires installed { IsSide P.family installed.now }
-    requires changes { IsSide P.family changes.now }
+    requires installed { IsFamilyTable P.family installed.now }
+    requires changes { IsFamilyTable P.family changes.now }
     ensures edits { IfOk result (λ es. MakeNearest (width P.family) (entries_of (routes_of changes.now)) (entries_of (routes_of installed.now)) es.items) }
     ensures within { IfOk result (λ es. AreWithin (width P.family) es.items) }
 {
@@ -104,13 +104,13 @@ fn edits_of<P: OfFamily>(
 }
 
 /// The fewest edits of one side that one change needs. Host bits of the network don't count. Nothing is allocated for the change.
-fn edits_of_one<P: OfFamily>(
+fn edits_of_one<P: FamilyNet>(
     alloc: Global,
-    installed: &Side<P, 1>,
+    installed: &FamilyTable<P, 1>,
     net: P,
     hop: Hop,
 ) -> Result<Vec<Edit>, AllocError>
-    requires { IsSide P.family installed.now }
+    requires { IsFamilyTable P.family installed.now }
     ensures edits { IfOk result (λ es. MakeNearest (width P.family) ((P.bits net, number_of hop) ∷ []) (entries_of (routes_of installed.now)) es.items) }
     ensures within { IfOk result (λ es. AreWithin (width P.family) es.items) }
     ensures hop { IfOk result (λ es. IsHop hop) }
@@ -123,7 +123,7 @@ fn edits_of_one<P: OfFamily>(
 }
 
 /// The network of a block.
-fn network<P: OfFamily>(path: &Path) -> IpNet
+fn network<P: FamilyNet>(path: &Path) -> IpNet
     requires { length path.now ≤ width P.family }
     ensures { result ≡ network_at (block_at P.family path.now) }
 {
@@ -131,7 +131,7 @@ fn network<P: OfFamily>(path: &Path) -> IpNet
 }
 
 /// Adds the install of an edit, if it is one.
-fn push_install<P: OfFamily>(
+fn push_install<P: FamilyNet>(
     path: &Path,
     edit: Option<Option<u32>>,
     operations: &mut Vec<Operation>,
@@ -148,7 +148,7 @@ fn push_install<P: OfFamily>(
 }
 
 /// Adds the installs of one family, from the last to the first.
-fn push_installs<P: OfFamily>(
+fn push_installs<P: FamilyNet>(
     edits: &[Edit],
     operations: &mut Vec<Operation>,
 ) -> Result<(), AllocError>
@@ -164,7 +164,7 @@ fn push_installs<P: OfFamily>(
 }
 
 /// Adds the remove of an edit, if it is one.
-fn push_remove<P: OfFamily>(
+fn push_remove<P: FamilyNet>(
     path: &Path,
     edit: Option<Option<u32>>,
     operations: &mut Vec<Operation>,
@@ -180,7 +180,7 @@ fn push_remove<P: OfFamily>(
 }
 
 /// Adds the removes of one family, from the first to the last.
-fn push_removes<P: OfFamily>(
+fn push_removes<P: FamilyNet>(
     edits: &[Edit],
     operations: &mut Vec<Operation>,
 ) -> Result<(), AllocError>

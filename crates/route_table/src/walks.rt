@@ -7,9 +7,9 @@ ghost use Rattle.route_laws.specs.Networks.{routes_of};
 ghost use Rattle.route_laws.specs.Tables.{IsTable, covering};
 ghost use Rattle.route_table.specs.Given.{AreFamilies, AreRoutes};
 
+use crate::family_routes::FamilyRoutes;
 use crate::hop_table::HopTable;
 use crate::routes::Routes;
-use crate::side_routes::SideRoutes;
 use crate::table::{RouteTable, Table, cleared};
 use ipnet::{IpNet, Ipv4Net, Ipv6Net};
 
@@ -96,7 +96,7 @@ impl RouteTable {
     }
 
     /// The routes of IPv4 and of IPv6, ascending, with the network type of the family.
-    pub(crate) fn sides(&self) -> (SideRoutes<'_, Ipv4Net>, SideRoutes<'_, Ipv6Net>)
+    pub(crate) fn sides(&self) -> (FamilyRoutes<'_, Ipv4Net>, FamilyRoutes<'_, Ipv6Net>)
         ensures { AreFamilies (routes_of self.now) result.0 result.1 }
     {
         (self.v4.iter(), self.v6.iter())
@@ -113,7 +113,7 @@ impl HopTable {
     }
 
     /// The routes of IPv4 and of IPv6, ascending, with the network type of the family.
-    pub(crate) fn sides(&self) -> (SideRoutes<'_, Ipv4Net>, SideRoutes<'_, Ipv6Net>)
+    pub(crate) fn sides(&self) -> (FamilyRoutes<'_, Ipv4Net>, FamilyRoutes<'_, Ipv6Net>)
         ensures { AreFamilies (routes_of self.now) result.0 result.1 }
     {
         (self.v4.iter(), self.v6.iter())

@@ -12,8 +12,8 @@ ghost use Rattle.routes.specs.Asked.{AnyMode, word_of};
 ghost use Rattle.routes.specs.Runs.{Ends, MayFailToWrite, MayLackMemory, Writes};
 
 use route_feed::{
-    AtEnd, Counted, Input, Output, REPLY, RunError, follow_then, lead_then, let_go, shorten,
-    write_out,
+    AtEnd, Counted, Input, OUTPUT_BUFFER, Output, RunError, follow_then, lead_then, release,
+    shorten, write_out,
 };
 use std::alloc::{Allocator, Global};
 use std::cell::Cell;
@@ -135,14 +135,14 @@ fn run_mode<R: Read, W: Write + Drop>(
     ensures line { IsErrOf result RunError.Line → ((mode ≡ Mode.Follow) ⊎ (mode ≡ Mode.Least)) × MeetsAnother R.remaining reader.old reader.new }
     ensures read_well { (IsErrOf result RunError.Read → ⊥) → reader.new.faults ≡ reader.old.faults }
 {
-    let Ok(buffered) = BufWriter::with_capacity(alloc, REPLY, output) else {
+    let Ok(buffered) = BufWriter::with_capacity(alloc, OUTPUT_BUFFER, output) else {
         return Err(RunError::Memory);
     };
     let mut writer = Counted::new(Output::new(buffered, more));
     match run_as(mode, alloc, reader, &mut writer) {
         Ok(()) => write_out(writer.into_inner().into_inner()),
         Err(error) => {
-            let_go(writer.into_inner().into_inner());
+            release(writer.into_inner().into_inner());
             Err(error)
         }
     }

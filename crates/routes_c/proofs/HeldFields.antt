@@ -1,4 +1,4 @@
--- What the fields of a `Held` own: facts alone, of the pointer and of the allocator, so that it is had for nothing.
+-- What the fields of a `BoxedContent` own: facts alone, of the pointer and of the allocator, so that it is had for nothing.
 use Rattle.std.proofs.Common.{◌≡◌, List, [], ◌∷◌, Option, Some, None, is_some, true, true≢false, refl, sym}
 use seplogic.Ra.Ura.{Ura}
 use mir.Val.{Val, vunit, vstruct, vcons, vnil}
@@ -12,12 +12,12 @@ use denote.Struct.Owning.{Owning, shape, fields, row, to}
 use Rattle.std.specs.Global.{Global}
 use Rattle.std_heap.specs.contracts.Global.{the_row as G, the_field, the_type as global-declared}
 use Rattle.std_heap.proofs.Global.TheLaws as global
-use Rattle.routes_c.specs.contracts.held.Held.{the_type, the_row as held-row}
-use Rattle.routes_c.specs.contracts.loose.Loose as loose
-use Rattle.routes_c.specs.declared.held.Held.{Held}
+use Rattle.routes_c.specs.contracts.boxed_content.BoxedContent.{the_type, the_row as held-row}
+use Rattle.routes_c.specs.contracts.raw_box.RawBox as loose
+use Rattle.routes_c.specs.declared.boxed_content.BoxedContent.{BoxedContent}
 use Rattle.std_alloc.specs.contracts.boxed.Box as box
 use Rattle.std_heap.specs.contracts.GlobalAllocator.TheImpl.{ghosts}
-use Rattle.routes_c.proofs.held.Held.TheLaws as laws
+use Rattle.routes_c.proofs.boxed_content.BoxedContent.TheLaws as laws
 
 -- the row of the fields
 abbrev pub Fields : RattleType
@@ -28,7 +28,7 @@ pub allocator_is : (g : Global) → Is G g (global.lowered g ∷ [])
 allocator_is g = ((vstruct (vcons vunit vnil) ∷ [], tt), (refl, (((vunit ∷ [], tt), (refl, (refl, tt))), tt)))
 
 -- the fields' relation to the struct's machine value
-pub fields_are : (h : Held) → Is Fields (to the_type h) (laws.lowered h ∷ [])
+pub fields_are : (h : BoxedContent) → Is Fields (to the_type h) (laws.lowered h ∷ [])
 fields_are h = ((ptr_val h.at ∷ [], (global.lowered h.alloc ∷ [], tt)), (refl, (refl, (allocator_is h.alloc, tt))))
 
 plains : Plains (fields the_type)
@@ -51,7 +51,7 @@ module _ {M : Type 1} {𝓤 : Ura M} (𝓛 : Logic 𝓤) where
   pub fields_made : Makes 𝓛 Fields (Is Fields)
   fields_made = Struct-Makes 𝓛 (shape the_type) plains
 
-  pub fields_typed : (h : Held) → Typed Fields.mir (laws.lowered h ∷ [])
+  pub fields_typed : (h : BoxedContent) → Typed Fields.mir (laws.lowered h ∷ [])
   fields_typed h = (Struct-Lawful 𝓛 (shape the_type) (lawfuls 𝓛 the_type.parts laws.the_laws)).typed (to the_type h) (laws.lowered h ∷ []) (fields_are h)
 
   pub allocator_typed : (g : Global) → Typed G.mir (global.lowered g ∷ [])
@@ -68,23 +68,23 @@ module _ {M : Type 1} {𝓤 : Ura M} (𝓛 : Logic 𝓤) where
 abbrev loose_type : RattleType → Owning
 loose_type T = loose.the_type T
 
-abbrev pub Loose-row : RattleType → RattleType
-Loose-row T = row (loose_type T)
+abbrev pub RawBox-row : RattleType → RattleType
+RawBox-row T = row (loose_type T)
 
 abbrev pub LooseFields : RattleType → RattleType
 LooseFields T = Struct (shape (loose_type T))
 
-abbrev pub loose_vals : (T : RattleType) → (Loose-row T).Denot → List Val
+abbrev pub loose_vals : (T : RattleType) → (RawBox-row T).Denot → List Val
 loose_vals T l = vstruct (vcons (ptr_val l.at) (vcons (global.lowered l.alloc) vnil)) ∷ []
 
-pub loose_tells : (T : RattleType) → Tells (Loose-row T) (Is (Loose-row T)) (loose_vals T)
+pub loose_tells : (T : RattleType) → Tells (RawBox-row T) (Is (RawBox-row T)) (loose_vals T)
 loose_tells T l vs p = Struct-Tells (shape (loose_type T)) (rawptr_vals, ((λ g. global.the_field_laws.val g ∷ []), tt)) (rawptr_Tells_one, (global.the_field_laws.tells, tt)) (to (loose_type T) l) vs p.0
 
-pub loose_fields_are : (T : RattleType) (l : (Loose-row T).Denot) → Is (LooseFields T) (to (loose_type T) l) (loose_vals T l)
+pub loose_fields_are : (T : RattleType) (l : (RawBox-row T).Denot) → Is (LooseFields T) (to (loose_type T) l) (loose_vals T l)
 loose_fields_are T l = ((ptr_val l.at ∷ [], (global.lowered l.alloc ∷ [], tt)), (refl, (refl, (allocator_is l.alloc, tt))))
 
 module _ {M : Type 1} {𝓤 : Ura M} (𝓛 : Logic 𝓤) where
-  pub loose_typed : (T : RattleType) (l : (Loose-row T).Denot) → Typed (Loose-row T).mir (loose_vals T l)
+  pub loose_typed : (T : RattleType) (l : (RawBox-row T).Denot) → Typed (RawBox-row T).mir (loose_vals T l)
   loose_typed T l = (Struct-Lawful 𝓛 (shape (loose_type T)) (rawptr_Lawful 𝓛, (global.the_field_laws.lawful 𝓛, tt))).typed (to (loose_type T) l) (loose_vals T l) (loose_fields_are T l)
 
   pub loose_fields_made : (T : RattleType) → Makes 𝓛 (LooseFields T) (Is (LooseFields T))
@@ -93,15 +93,15 @@ module _ {M : Type 1} {𝓤 : Ura M} (𝓛 : Logic 𝓤) where
   pub allocator_made : Makes 𝓛 G (Is G)
   allocator_made = makes global-declared ((λ m vs us. (tt, (tt, tt))), tt) 𝓛
 
--- a `Held` that is passed, and its machine value
-abbrev pub held_vals : Held → List Val
+-- a `BoxedContent` that is passed, and its machine value
+abbrev pub held_vals : BoxedContent → List Val
 held_vals h = laws.lowered h ∷ []
 
 pub held_tells : Tells held-row (Is held-row) held_vals
 held_tells h vs p = laws.lowers.val_is h vs p
 
 module _ {M : Type 1} {𝓤 : Ura M} (𝓛 : Logic 𝓤) where
-  pub held_typed : (h : Held) → Typed held-row.mir (held_vals h)
+  pub held_typed : (h : BoxedContent) → Typed held-row.mir (held_vals h)
   held_typed h = fields_typed 𝓛 h
 
 -- the content that a handle has

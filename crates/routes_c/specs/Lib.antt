@@ -3,7 +3,7 @@ pub mod Calls
 pub mod Contents
 pub mod Followers
 pub mod Handles
-pub mod Held
+pub mod BoxedContent
 pub mod InnerLent
 pub mod Lists
 pub mod Many

@@ -12,8 +12,8 @@ use Rattle.route_laws.specs.Networks.{Stored, choices_at, routes_of}
 use Rattle.route_laws.specs.Onwards.{routes_after, routes_from}
 use Rattle.route_laws.specs.Tables.{Governed, Route as TableRoute, covering, hop_at, match_of, routes_inside}
 use Rattle.routes_c.specs.Shown.{shown}
-use Rattle.routes_c.specs.declared.asked.Asked.{Asked}
-use Rattle.routes_c.specs.declared.asked.Asked.TheVariants as ask
+use Rattle.routes_c.specs.declared.list_query.ListQuery.{ListQuery}
+use Rattle.routes_c.specs.declared.list_query.ListQuery.TheVariants as ask
 use Rattle.routes_c.specs.declared.shown.Route.{Route}
 
 -- a route in the layout of C
@@ -46,7 +46,7 @@ abbrev pub AreGoverned : List TableRoute → Block → List TableRoute → Type 
 AreGoverned M n rs = (bs : List Block) × IsMaximal (Governed M n) bs × (rs ≡ map (default_route (hop_or_drop (match_of M n))) bs)
 
 -- the routes that the call asks for
-abbrev pub AreAsked : Asked → List Stored → List TableRoute → Type 0
+abbrev pub AreAsked : ListQuery → List Stored → List TableRoute → Type 0
 AreAsked (ask.Inside n) T rs = rs ≡ routes_inside (routes_of T) (block n)
 AreAsked (ask.Cover n) T rs = rs ≡ covering (routes_of T) (block n)
 AreAsked (ask.From n limit) T rs = rs ≡ take limit (routes_from (routes_of T) (block n))

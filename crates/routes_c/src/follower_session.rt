@@ -9,9 +9,9 @@ ghost use Rattle.routes_c.specs.Followers.{FollowerFlattens, FollowerLists, Foll
 ghost use Rattle.routes_c.specs.Opens.{HasHopsOf, IsEmpty, IsNoIndex};
 ghost use Rattle.routes_c.specs.RouteLists.{Shown};
 
-use crate::asked::items;
 use crate::index_session::IndexSession;
 use crate::kept::Kept;
+use crate::list_query::items;
 use crate::shown::Route;
 use hop_index::HopIndex;
 use ipnet::IpAddr;

@@ -4,15 +4,15 @@ ghost use Rattle.std.specs.Fn.{FnOnceReturnsAtMut};
 ghost use Rattle.routes_c.specs.Handles.{GoesOn, IsClosed, IsHandle, content_of, of_kind};
 ghost use Rattle.routes_c.specs.Runs.{ReturnsAtBoth};
 
+use crate::boxed_content::BoxedContent;
 use crate::content::{Content, Kind};
-use crate::held::Held;
 use std::alloc::Global;
 use std::mem::replace;
 
 /// A handle of a table, an index or a follower, open or closed. A handle of zero bytes is closed.
 #[repr(C)]
 pub struct Handle {
-    pub held: Held,
+    pub held: BoxedContent,
     pub is_open: bool,
 }
 
@@ -29,7 +29,7 @@ impl Handle {
             return None;
         }
         self.is_open = false;
-        Some(replace(&mut self.held, Held::none(alloc)).into_box())
+        Some(replace(&mut self.held, BoxedContent::none(alloc)).into_box())
     }
 
     /// Puts the content back into the handle.
@@ -37,7 +37,7 @@ impl Handle {
         ensures handle { IsHandle self.new }
         ensures open { content_of self.new ≡ Some content.value }
     {
-        self.held = Held::of(content);
+        self.held = BoxedContent::of(content);
         self.is_open = true;
     }
 

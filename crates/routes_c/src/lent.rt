@@ -3,10 +3,10 @@ ghost use Rattle.std.specs.Prelude.{◌≡◌, Some, is_some, true};
 ghost use Rattle.std.specs.Borrow.{sem};
 ghost use Rattle.routes_c.specs.InnerLent.{held_follows};
 
+use crate::boxed_content::BoxedContent;
 use crate::content::Content;
-use crate::held::Held;
 
-impl Held {
+impl BoxedContent {
     /// Lends the content, which the handle has.
     pub(crate) fn lend(&mut self) -> &mut Content
         requires { is_some self.old.content ≡ true }

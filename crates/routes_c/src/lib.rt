@@ -5,23 +5,23 @@
 //! include/routes.h has the C declarations. Nothing checks a C caller: the caller must ensure each `requires` and what the types demand.
 #![tactic(auto)]
 
-pub mod asked;
+mod boxed_content;
 pub mod change;
 pub mod content;
 pub mod count;
 pub mod follower_session;
 pub mod following;
 pub mod handle;
-mod held;
 pub mod hops;
 pub mod index_session;
 mod kept;
 mod lent;
 pub mod lines;
+pub mod list_query;
 pub mod lists;
-mod loose;
 pub mod matches;
 pub mod opens;
+mod raw_box;
 pub mod session;
 pub mod shown;
 pub mod threads;

@@ -10,9 +10,9 @@ ghost use Rattle.routes_c.specs.Handles.{Copies, Finds, GoesOn, IsHandle, sessio
 ghost use Rattle.routes_c.specs.Lists.{Flattens, ListsAt, ListsOf};
 ghost use Rattle.routes_c.specs.RouteLists.{AreAsked, AreGoverned, all_routes, own_routes};
 
-use crate::asked::Asked;
 use crate::handle::Handle;
 use crate::kept::{copy_from, tell_at};
+use crate::list_query::ListQuery;
 use crate::session::Session;
 use crate::shown::{Piece, Route, net4, net6};
 use std::alloc::Global;
@@ -55,7 +55,7 @@ pub extern "C" fn routes_read_pieces(handle: &mut Handle, from: usize, out: &mut
 }
 
 /// Makes the list that is asked for.
-fn list(alloc: Global, handle: &mut Handle, asked: Asked) -> u32
+fn list(alloc: Global, handle: &mut Handle, asked: ListQuery) -> u32
     requires { IsHandle handle.old }
     ensures { ListsOf handle.old handle.new (AreAsked asked) result }
 {
@@ -73,7 +73,7 @@ pub extern "C" fn routes_list4(alloc: Global, handle: &mut Handle, addr: u32, le
     ensures { ListsAt 32 len handle.old handle.new (λ T rs. rs ≡ routes_inside (routes_of T) (block_of Ipv4 (record { number = addr; len = len }))) result }
 {
     match net4(addr, len) {
-        Some(net) => list(alloc, handle, Asked::Inside(net)),
+        Some(net) => list(alloc, handle, ListQuery::Inside(net)),
         None => 6,
     }
 }
@@ -94,7 +94,7 @@ pub extern "C" fn routes_list6(
     ensures { ListsAt 128 len handle.old handle.new (λ T rs. rs ≡ routes_inside (routes_of T) (block_of Ipv6 (record { number = high * 2 ^ 64 + low; len = len }))) result }
 {
     match net6(high, low, len) {
-        Some(net) => list(alloc, handle, Asked::Inside(net)),
+        Some(net) => list(alloc, handle, ListQuery::Inside(net)),
         None => 6,
     }
 }
@@ -109,7 +109,7 @@ pub extern "C" fn routes_cover4(alloc: Global, handle: &mut Handle, addr: u32, l
     ensures { ListsAt 32 len handle.old handle.new (λ T rs. rs ≡ covering (routes_of T) (block_of Ipv4 (record { number = addr; len = len }))) result }
 {
     match net4(addr, len) {
-        Some(net) => list(alloc, handle, Asked::Cover(net)),
+        Some(net) => list(alloc, handle, ListQuery::Cover(net)),
         None => 6,
     }
 }
@@ -130,7 +130,7 @@ pub extern "C" fn routes_cover6(
     ensures { ListsAt 128 len handle.old handle.new (λ T rs. rs ≡ covering (routes_of T) (block_of Ipv6 (record { number = high * 2 ^ 64 + low; len = len }))) result }
 {
     match net6(high, low, len) {
-        Some(net) => list(alloc, handle, Asked::Cover(net)),
+        Some(net) => list(alloc, handle, ListQuery::Cover(net)),
         None => 6,
     }
 }
@@ -151,7 +151,7 @@ pub extern "C" fn routes_from4(
     ensures { ListsAt 32 len handle.old handle.new (λ T rs. rs ≡ take limit (routes_from (routes_of T) (block_of Ipv4 (record { number = addr; len = len })))) result }
 {
     match net4(addr, len) {
-        Some(net) => list(alloc, handle, Asked::From(net, limit)),
+        Some(net) => list(alloc, handle, ListQuery::From(net, limit)),
         None => 6,
     }
 }
@@ -173,7 +173,7 @@ pub extern "C" fn routes_from6(
     ensures { ListsAt 128 len handle.old handle.new (λ T rs. rs ≡ take limit (routes_from (routes_of T) (block_of Ipv6 (record { number = high * 2 ^ 64 + low; len = len })))) result }
 {
     match net6(high, low, len) {
-        Some(net) => list(alloc, handle, Asked::From(net, limit)),
+        Some(net) => list(alloc, handle, ListQuery::From(net, limit)),
         None => 6,
     }
 }
@@ -194,7 +194,7 @@ pub extern "C" fn routes_after4(
     ensures { ListsAt 32 len handle.old handle.new (λ T rs. rs ≡ take limit (routes_after (routes_of T) (block_of Ipv4 (record { number = addr; len = len })))) result }
 {
     match net4(addr, len) {
-        Some(net) => list(alloc, handle, Asked::After(net, limit)),
+        Some(net) => list(alloc, handle, ListQuery::After(net, limit)),
         None => 6,
     }
 }
@@ -216,7 +216,7 @@ pub extern "C" fn routes_after6(
     ensures { ListsAt 128 len handle.old handle.new (λ T rs. rs ≡ take limit (routes_after (routes_of T) (block_of Ipv6 (record { number = high * 2 ^ 64 + low; len = len })))) result }
 {
     match net6(high, low, len) {
-        Some(net) => list(alloc, handle, Asked::After(net, limit)),
+        Some(net) => list(alloc, handle, ListQuery::After(net, limit)),
         None => 6,
     }
 }
@@ -231,7 +231,7 @@ pub extern "C" fn routes_all4(alloc: Global, handle: &mut Handle, addr: u32, len
     ensures { ListsAt 32 len handle.old handle.new (λ T rs. rs ≡ all_routes T (block_of Ipv4 (record { number = addr; len = len }))) result }
 {
     match net4(addr, len) {
-        Some(net) => list(alloc, handle, Asked::All(net)),
+        Some(net) => list(alloc, handle, ListQuery::All(net)),
         None => 6,
     }
 }
@@ -252,7 +252,7 @@ pub extern "C" fn routes_all6(
     ensures { ListsAt 128 len handle.old handle.new (λ T rs. rs ≡ all_routes T (block_of Ipv6 (record { number = high * 2 ^ 64 + low; len = len }))) result }
 {
     match net6(high, low, len) {
-        Some(net) => list(alloc, handle, Asked::All(net)),
+        Some(net) => list(alloc, handle, ListQuery::All(net)),
         None => 6,
     }
 }
@@ -269,7 +269,7 @@ pub extern "C" fn routes_governed4(alloc: Global, handle: &mut Handle, addr: u32
     ensures { ListsAt 32 len handle.old handle.new (λ T. AreGoverned (routes_of T) (block_of Ipv4 (record { number = addr; len = len }))) result }
 {
     match net4(addr, len) {
-        Some(net) => list(alloc, handle, Asked::Governed(net)),
+        Some(net) => list(alloc, handle, ListQuery::Governed(net)),
         None => 6,
     }
 }
@@ -290,7 +290,7 @@ pub extern "C" fn routes_governed6(
     ensures { ListsAt 128 len handle.old handle.new (λ T. AreGoverned (routes_of T) (block_of Ipv6 (record { number = high * 2 ^ 64 + low; len = len }))) result }
 {
     match net6(high, low, len) {
-        Some(net) => list(alloc, handle, Asked::Governed(net)),
+        Some(net) => list(alloc, handle, ListQuery::Governed(net)),
         None => 6,
     }
 }
@@ -303,7 +303,7 @@ pub extern "C" fn routes_own(alloc: Global, handle: &mut Handle, number: u32) ->
     requires { IsHandle handle.old }
     ensures { ListsOf handle.old handle.new (λ T rs. rs ≡ own_routes (routes_of T) number) result }
 {
-    list(alloc, handle, Asked::Own(number))
+    list(alloc, handle, ListQuery::Own(number))
 }
 
 /// Lists the routes of a least table: each address has the same hop, and no such table has fewer routes.
@@ -314,7 +314,7 @@ pub extern "C" fn routes_least(alloc: Global, handle: &mut Handle) -> u32
     requires { IsHandle handle.old }
     ensures { ListsOf handle.old handle.new (λ T. IsLeast (hop_at (routes_of T))) result }
 {
-    list(alloc, handle, Asked::Least)
+    list(alloc, handle, ListQuery::Least)
 }
 
 /// Reads the route at an index of the list of routes that was made last.

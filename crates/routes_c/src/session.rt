@@ -10,9 +10,9 @@ ghost use Rattle.routes_c.specs.Opens.{HasHopsOf, IsEmpty};
 ghost use Rattle.routes_c.specs.RouteLists.{AreAsked};
 ghost use Rattle.routes_c.specs.Shown.{found_at};
 
-use crate::asked::Asked;
 use crate::index_session::IndexSession;
 use crate::kept::Kept;
+use crate::list_query::ListQuery;
 use crate::shown::{Change, Route, show, shown_change};
 use hop_index::HopIndex;
 use ipnet::IpNet;
@@ -99,7 +99,7 @@ impl Session {
     }
 
     /// Makes the list of routes that is asked for.
-    pub(crate) fn list(&mut self, alloc: Global, asked: Asked) -> u32
+    pub(crate) fn list(&mut self, alloc: Global, asked: ListQuery) -> u32
         ensures { Lists self.old self.new (AreAsked asked self.old.table) result }
     {
         let Ok(routes) = asked.list(alloc, &self.table) else {
@@ -114,7 +114,7 @@ impl Session {
         ensures hops { IfOk result (λ i. HasHopsOf self.now.table (hops_in i)) }
         ensures memory { IfErr result (λ e. e ≡ 2) }
     {
-        match HopIndex::of_table(alloc, &self.table) {
+        match HopIndex::from_table(alloc, &self.table) {
             Ok(index) => IndexSession::new(alloc, index),
             Err(_) => Err(2),
         }

@@ -3,7 +3,7 @@ use Rattle.std.specs.Prelude.{◌≡◌, ℕ, List, [], ◌∷◌, ◌++◌, Opt
 use Rattle.std.specs.Io.KnownBytes.{IsAtEnd}
 use Rattle.route_lines.specs.Bytes.{lines}
 use Rattle.route_lines.specs.Spelled.{note_of}
-use Rattle.route_lines.specs.declared.note.Note.{Note}
+use Rattle.route_lines.specs.declared.fib_input.FibInput.{FibInput}
 use Rattle.route_feed.specs.declared.counted.Counted.{Counted}
 use Rattle.route_feed.specs.Devices.{HasRead}
 use Rattle.route_feed.specs.Installing.{AreNotes, IsUnfit, MayWant, Noted, after_notes, begin}
@@ -16,7 +16,7 @@ module _ {R : Type 0} (remaining : R → Option (List ℕ)) where
 
   -- the reader returned some bytes; the lines before one of them are notes, and so is this line, which may need memory
   abbrev pub MeetsWantingLine : Counted R → Counted R → Type 0
-  MeetsWantingLine from to = (m : Meets remaining from to) × (note : Note) × (note_of m.piece ≡ Some note) × MayWant (after_notes begin m.notes) note
+  MeetsWantingLine from to = (m : Meets remaining from to) × (note : FibInput) × (note_of m.piece ≡ Some note) × MayWant (after_notes begin m.notes) note
 
   -- the reader gave some bytes; the lines before one of them are notes, and so is this one
   abbrev pub MeetsNote : Counted R → Counted R → Type 0

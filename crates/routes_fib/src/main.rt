@@ -13,7 +13,7 @@ ghost use Rattle.route_feed.specs.declared.error.RunError.TheVariants as ended;
 ghost use Rattle.routes_fib.specs.declared.Fault.TheVariants as fault;
 ghost use Rattle.routes_fib.specs.Ends.{MeetsNote, MeetsUnfitLine, MeetsWantingLine, ReadsNotes};
 
-use route_feed::{Counted, REPLY, RunError, install, let_go, write_out};
+use route_feed::{Counted, OUTPUT_BUFFER, RunError, install, release, write_out};
 use std::alloc::{Allocator, Global};
 use std::env;
 use std::env::{Args, Env};
@@ -104,14 +104,14 @@ fn install_by<R: Read, W: Write + Drop>(
     ensures write { IsErrOf result RunError.Write → MeetsNote R.remaining reader.old reader.new ⊎ ReadsNotes R.remaining reader.old reader.new }
     ensures read_well { (IsErrOf result RunError.Read → ⊥) → reader.new.faults ≡ reader.old.faults }
 {
-    let Ok(buffered) = BufWriter::with_capacity(alloc, REPLY, output) else {
+    let Ok(buffered) = BufWriter::with_capacity(alloc, OUTPUT_BUFFER, output) else {
         return Err(RunError::Memory);
     };
     let mut writer = Counted::new(buffered);
     match install(alloc, reader, &mut writer) {
         Ok(()) => write_out(writer.into_inner()),
         Err(error) => {
-            let_go(writer.into_inner());
+            release(writer.into_inner());
             Err(error)
         }
     }

@@ -1,4 +1,4 @@
 pub mod Shapes
-pub mod KeptValues
+pub mod OwnedValues
 pub mod Lends
 pub mod InnerGrowth

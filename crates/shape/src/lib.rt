@@ -6,10 +6,10 @@
 
 mod copy;
 mod growth;
-mod kept;
 mod lent;
+mod owned_values;
 mod shape;
 
-pub use kept::Kept;
 pub use lent::Items;
+pub use owned_values::OwnedValues;
 pub use shape::Shape;

@@ -16,14 +16,14 @@ use Rattle.trie_core.specs.Bits.{number_from}
 use Rattle.trie_core.specs.Nodes.{Seen}
 use Rattle.trie_core.specs.InnerNodes.{HasSlots}
 use Rattle.trie_core.specs.InnerSearch.{IsChild, HasNoChild}
-use Rattle.trie_core.specs.InnerExchanges.{IsExchanged}
+use Rattle.trie_core.specs.InnerInsertedBelow.{IsInsertedBelow}
 use Rattle.trie_core.specs.InnerChains.{over, chain}
 use Rattle.trie_core.proofs.Numbers.{ones_bit, number_bound, number-take, child_string-child_of}
 use Rattle.trie_core.proofs.Taken.{IsFree, IsTaken, free, taken}
 use Rattle.trie_core.proofs.Seen.{IsSeen, seen, is_child, has_no_child, value_at}
 use Rattle.trie_core.proofs.Searches.{no_child_get}
 use Rattle.trie_core.proofs.Changes.{was}
-use Rattle.trie_core.proofs.Exchanges.{exchanged_below}
+use Rattle.trie_core.proofs.InsertedBelow.{exchanged_below}
 
 -- no other bit is set
 pub over_free : (i n : ℕ) → (n ≡ i → ⊥) → 2 ^ n / 2 ^ i % 2 ≡ 0
@@ -106,8 +106,8 @@ module _ {X : Type 0} where
   chain_get (suc k) q r m h e = over_get q (chain k (drop 5 q) m) (more k q h).0 ∙ chain_get k (drop 5 q) r m (more k q h).1 (below k q r e)
 
   -- what is stored below is stored in the whole
-  pub chain_exchanged : {h out : Option X} {may_grow : Bool} {room made : ℕ} (k : ℕ) (q r : List Bool) (e d : Seen X) → 5 * k ≤ length q → r ≡ drop (5 * k) q → IsSome h → IsExchanged r h may_grow room e made out d → IsExchanged q h may_grow room (chain k q e) made out (chain k q d)
-  chain_exchanged {h} {out} {may_grow} {room} {made} zero q r e d l f g x = subst (λ p. IsExchanged p h may_grow room e made out d) (at_once q r f) x
+  pub chain_exchanged : {h out : Option X} {may_grow : Bool} {room made : ℕ} (k : ℕ) (q r : List Bool) (e d : Seen X) → 5 * k ≤ length q → r ≡ drop (5 * k) q → IsSome h → IsInsertedBelow r h may_grow room e made out d → IsInsertedBelow q h may_grow room (chain k q e) made out (chain k q d)
+  chain_exchanged {h} {out} {may_grow} {room} {made} zero q r e d l f g x = subst (λ p. IsInsertedBelow p h may_grow room e made out d) (at_once q r f) x
   chain_exchanged (suc k) q r e d l f g x =
       let n = child_of q in
       let c = chain k (drop 5 q) e in

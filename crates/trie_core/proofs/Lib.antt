@@ -3,7 +3,7 @@ pub mod Levels
 pub mod SkippedRemovals
 pub mod Past
 pub mod Skipped
-pub mod Withdrawn
+pub mod RemovedBelow
 pub mod Shapes
 pub mod SkippedLent
 pub mod SkippedLeaves
@@ -39,7 +39,7 @@ pub mod Inside
 pub mod Leaves
 pub mod Ways
 pub mod Left
-pub mod Exchanges
+pub mod InsertedBelow
 pub mod Removals
 pub mod Staying
 pub mod Covers

@@ -12,7 +12,7 @@ use Rattle.trie_core.specs.Nodes.{Seen}
 use Rattle.trie_core.specs.InnerSearch.{IsChild, NoneBelow}
 use Rattle.ipnet_blocks.specs.Blocks.{digits}
 use Rattle.trie_core.specs.InnerNodes.{HasSlots, node_height}
-use Rattle.trie_core.specs.InnerExchanges.{IsExchanged, bare}
+use Rattle.trie_core.specs.InnerInsertedBelow.{IsInsertedBelow, bare}
 use Rattle.trie_core.specs.InnerPlaces.{child_of, place_of}
 use Rattle.trie_core.specs.InnerChains.{over, chain, skipped, Starts}
 use Rattle.trie_core.proofs.Aligned.{digits-mod}
@@ -23,7 +23,7 @@ use Rattle.trie_core.proofs.Changes.{value_put_map, value_count}
 use Rattle.trie_core.proofs.Ways.{short_off}
 use lib.Pow.{pow_mono}
 use Rattle.std.proofs.lemmas.Nat.{pow_pos}
-use Rattle.trie_core.proofs.Exchanges.{exchanged_new}
+use Rattle.trie_core.proofs.InsertedBelow.{exchanged_new}
 use Rattle.trie_core.proofs.Chains.{alone_counted, alone_places, over_slots, over_places, chain_step, chain_exchanged, chain_along, chain_get, chain_none, chain_split}
 use Rattle.trie_core.proofs.Searches.{IsAt, IsBest, none_deeper}
 
@@ -119,12 +119,12 @@ module _ {X : Type 0} where
   -- ---- a value is stored
 
   -- below the skipped levels
-  pub skipped_exchanged : {h out : Option X} {may_grow : Bool} {room made : ℕ} {q r : List Bool} {m : Seen X} (k skip : ℕ) (e d : Seen X) → chain k (skipped k skip) e ≡ m → Starts k skip q → r ≡ drop (5 * k) q → IsSome h → IsExchanged r h may_grow room e made out d → IsExchanged q h may_grow room m made out (chain k (skipped k skip) d)
+  pub skipped_exchanged : {h out : Option X} {may_grow : Bool} {room made : ℕ} {q r : List Bool} {m : Seen X} (k skip : ℕ) (e d : Seen X) → chain k (skipped k skip) e ≡ m → Starts k skip q → r ≡ drop (5 * k) q → IsSome h → IsInsertedBelow r h may_grow room e made out d → IsInsertedBelow q h may_grow room m made out (chain k (skipped k skip) d)
   skipped_exchanged {h} {out} {may_grow} {room} {made} {q} {r} {m} k skip e d v s f g x =
       let a = chain_along k q (skipped k skip) e s.0 s.1 in
       let b = chain_along k q (skipped k skip) d s.0 s.1 in
-      subst (λ n. IsExchanged q h may_grow room n made out (chain k (skipped k skip) d)) (sym a ∙ v)
-      (subst (λ n. IsExchanged q h may_grow room (chain k q e) made out n) (sym b) (chain_exchanged k q r e d s.0 f g x))
+      subst (λ n. IsInsertedBelow q h may_grow room n made out (chain k (skipped k skip) d)) (sym a ∙ v)
+      (subst (λ n. IsInsertedBelow q h may_grow room (chain k q e) made out n) (sym b) (chain_exchanged k q r e d s.0 f g x))
 
   -- in new nodes on the way, of which all but the last are skipped
   pub no_slots : HasSlots {X = X} {Y = Seen X} 0 [] 0 []
@@ -144,7 +144,7 @@ module _ {X : Type 0} where
     children_below = omega arith;
   }
 
-  pub lone_exchanged : {h : Option X} {may_grow : Bool} {room n : ℕ} (q : List Bool) (v : X) → length q < 5 → n ≡ place_of q → n < 31 → h ≡ Some v → IsTrue may_grow → IsExchanged q h may_grow room bare 0 None (viewed (2 ^ n) (v ∷ []) 0 [])
+  pub lone_exchanged : {h : Option X} {may_grow : Bool} {room n : ℕ} (q : List Bool) (v : X) → length q < 5 → n ≡ place_of q → n < 31 → h ≡ Some v → IsTrue may_grow → IsInsertedBelow q h may_grow room bare 0 None (viewed (2 ^ n) (v ∷ []) 0 [])
   lone_exchanged {n = n} q v h k l e g =
       let s = seen no_slots (nothing bare refl refl refl) in
       let t = lone_slots n v l in
@@ -161,23 +161,23 @@ module _ {X : Type 0} where
         grows = λ z. g;
       }
 
-  pub chain_new : {h out : Option X} {less made : ℕ} (k : ℕ) (q r : List Bool) (e d : Seen X) → 5 * k ≤ length q → r ≡ drop (5 * k) q → IsSome h → e.entries ≡ empty → e.spares ≡ empty → e.levels ≡ 1 → IsExchanged r h true less e made out d
-      → IsExchanged q h true (less + k) e (made + k) out (chain k q d)
+  pub chain_new : {h out : Option X} {less made : ℕ} (k : ℕ) (q r : List Bool) (e d : Seen X) → 5 * k ≤ length q → r ≡ drop (5 * k) q → IsSome h → e.entries ≡ empty → e.spares ≡ empty → e.levels ≡ 1 → IsInsertedBelow r h true less e made out d
+      → IsInsertedBelow q h true (less + k) e (made + k) out (chain k q d)
   chain_new {h} {out} {less} {made} zero q r e d l f g a b c x =
       let u : less ≡ less + 0 = omega arith in
       let w : made ≡ made + 0 = omega arith in
-      subst (λ n. IsExchanged q h true n e (made + 0) out d) u (subst (λ n. IsExchanged q h true less e n out d) w (subst (λ p. IsExchanged p h true less e made out d) f x))
+      subst (λ n. IsInsertedBelow q h true n e (made + 0) out d) u (subst (λ n. IsInsertedBelow q h true less e n out d) w (subst (λ p. IsInsertedBelow p h true less e made out d) f x))
   chain_new {h} {out} {less} {made} (suc k) q r e d l f g a b c x =
       let t = chain_step k q r l f in
       let n = child_of q in
       let y = chain_new k (drop 5 q) r e d t.0 t.1 g a b c x in
       let u : made + k + 1 ≡ made + suc k = omega arith in
       let o = over_slots n (chain k (drop 5 q) d) (number_bound 5 q) in
-      subst (λ z. IsExchanged q h true (less + suc k) e z out (over n (chain k (drop 5 q) d))) u
+      subst (λ z. IsInsertedBelow q h true (less + suc k) e z out (over n (chain k (drop 5 q) d))) u
       (exchanged_new (chain k (drop 5 q) d ∷ []) q e (chain k (drop 5 q) d) (seen no_slots (nothing e a b c)) (omega (arith, l)) refl (bit_at-zero n) refl (over_places n (chain k (drop 5 q) d) (number_bound 5 q)) o.children_counted o.children_below a b c refl g refl
       (omega (arith, y.within)) y)
 
-  pub made_new : {h out : Option X} {less made : ℕ} (k skip : ℕ) (q r : List Bool) (e d : Seen X) → Starts k skip q → r ≡ drop (5 * k) q → IsSome h → e.entries ≡ empty → e.spares ≡ empty → e.levels ≡ 1 → IsExchanged r h true less e made out d
-      → IsExchanged q h true (less + k) e (made + k) out (chain k (skipped k skip) d)
+  pub made_new : {h out : Option X} {less made : ℕ} (k skip : ℕ) (q r : List Bool) (e d : Seen X) → Starts k skip q → r ≡ drop (5 * k) q → IsSome h → e.entries ≡ empty → e.spares ≡ empty → e.levels ≡ 1 → IsInsertedBelow r h true less e made out d
+      → IsInsertedBelow q h true (less + k) e (made + k) out (chain k (skipped k skip) d)
   made_new {h} {out} {less} {made} k skip q r e d s f g a b c x =
-      subst (λ n. IsExchanged q h true (less + k) e (made + k) out n) (sym (chain_along k q (skipped k skip) d s.0 s.1)) (chain_new k q r e d s.0 f g a b c x)
+      subst (λ n. IsInsertedBelow q h true (less + k) e (made + k) out n) (sym (chain_along k q (skipped k skip) d s.0 s.1)) (chain_new k q r e d s.0 f g a b c x)

@@ -17,7 +17,7 @@ use Rattle.ipnet_blocks.proofs.Strings.{length-digits}
 use Rattle.trie_core.specs.InnerCount.{spare_of, spare_count, all_nodes, marked}
 use Rattle.trie_core.specs.InnerPlaces.{value_list, child_list, child_string, named, child_of}
 use Rattle.trie_core.specs.InnerNodes.{node_map, under}
-use Rattle.trie_core.specs.InnerWithdrawals.{IsFull, IsBare}
+use Rattle.trie_core.specs.InnerRemovedBelow.{IsFull, IsBare}
 use Rattle.trie_core.specs.Nodes.{BitMap, BitSet, Seen}
 use Rattle.trie_core.specs.InnerChains.{over, chain, skipped, chain_levels, Starts}
 use Rattle.trie_core.specs.InnerRemovals.{IsRemoved}
@@ -31,7 +31,7 @@ use Rattle.trie_core.proofs.Numbers.{number_bound, child_string-child_of}
 use Rattle.trie_core.proofs.Levels.{chain_nodes}
 use Rattle.trie_core.proofs.Strings.{bits_total, bits_same, front}
 use Rattle.trie_core.proofs.Changes.{new_nodes, spare_kept, was, was_lower, set_taken, set_count, set_height}
-use Rattle.trie_core.proofs.Withdrawn.{over_full, chain_full}
+use Rattle.trie_core.proofs.RemovedBelow.{over_full, chain_full}
 use Rattle.trie_core.proofs.Inside.{get-outside, outside_absent, begins_longer, begins_elsewhere, begins_below}
 use Rattle.trie_core.proofs.Left.{left_none, left_set, left_removed, cut_short, set_below, none_found}
 use Rattle.trie_core.proofs.Removals.{removed_below, removed_child}

@@ -13,7 +13,7 @@ use Rattle.trie_core.specs.InnerNodes.{under}
 use Rattle.trie_core.specs.InnerSearch.{IsChild, HasNoChild}
 use Rattle.trie_core.specs.InnerSteps.{LastGives}
 use Rattle.trie_core.specs.declared.frame.Next.{Next}
-use Rattle.trie_core.specs.InnerTrails.{on_way, along, bits_of, Reach, IsWalk}
+use Rattle.trie_core.specs.InnerTrails.{on_way, along, bits_of, FitsDepth, IsWalk}
 use Rattle.trie_core.proofs.Frames.{keys_split, keys_where, under_none}
 use Rattle.trie_core.proofs.Walks.{IsTop, popped, pushed, entry_step, below_step, IsOnwards, start_onwards, onwards_below, onwards_none, onwards_end}
 
@@ -67,26 +67,26 @@ module _ {X : Type 0} where
       e : take (length way - bits_of (fs ++ f ∷ [])) way ≡ take (length (take n way) - bits_of fs) (take n way)
       e = ap (λ k. take k way) a ∙ sym (take-take j n way (omega arith)) ∙ ap (λ k. take k (take n way)) (sym b)
 
-  reach_open : (n k : ℕ) (fs : List (Left X)) (f : Left X) → f.3 ≡ k → Reach n (fs ++ f ∷ []) → Reach (n - k) fs × (n + 5 * f.1 ≤ 130)
+  reach_open : (n k : ℕ) (fs : List (Left X)) (f : Left X) → f.3 ≡ k → FitsDepth n (fs ++ f ∷ []) → FitsDepth (n - k) fs × (n + 5 * f.1 ≤ 130)
   reach_open n k [] f z r = (tt, omega (arith, r.0))
   reach_open n k (g ∷ fs) f z r = let s = reach_open n k fs f z r.1 in ((omega (arith, r.0, bits-append fs f, z), s.0), s.1)
 
-  reach_close : (n k : ℕ) (fs : List (Left X)) (f : Left X) → f.3 ≡ k → Reach (n - k) fs → n + 5 * f.1 ≤ 130 → Reach n (fs ++ f ∷ [])
+  reach_close : (n k : ℕ) (fs : List (Left X)) (f : Left X) → f.3 ≡ k → FitsDepth (n - k) fs → n + 5 * f.1 ≤ 130 → FitsDepth n (fs ++ f ∷ [])
   reach_close n k [] f z r l = (omega (arith, l), tt)
   reach_close n k (g ∷ fs) f z r l = (omega (arith, r.0, bits-append fs f, z), reach_close n k fs f z r.1 l)
 
   -- gs is fs with the frame f on top, where the way leads to f, and is k bits longer than that of fs
   pub record IsLast (gs fs : List (Left X)) (f : Left X) (k : ℕ) (way : List Bool) : Type 0 where
     pub top : IsTop (along way gs) (along (take (length way - k) way) fs) (on_way way f)
-    pub all : Reach (length way) gs
-    pub below : Reach (length way - k) fs
+    pub all : FitsDepth (length way) gs
+    pub below : FitsDepth (length way - k) fs
     pub reach : length way + 5 * f.1 ≤ 130
     pub room : length fs + f.1 ≤ 26
 
-  pub put_frame : {gs fs : List (Left X)} {f : Left X} (k : ℕ) (way : List Bool) → f.3 ≡ k → FitFrom 0 (along (take (length way - k) way) fs) → Reach (length way - k) fs → 0 < f.1 → length fs + f.1 ≤ 26 → length way + 5 * f.1 ≤ 130 → gs ≡ fs ++ f ∷ [] → IsLast gs fs f k way
+  pub put_frame : {gs fs : List (Left X)} {f : Left X} (k : ℕ) (way : List Bool) → f.3 ≡ k → FitFrom 0 (along (take (length way - k) way) fs) → FitsDepth (length way - k) fs → 0 < f.1 → length fs + f.1 ≤ 26 → length way + 5 * f.1 ≤ 130 → gs ≡ fs ++ f ∷ [] → IsLast gs fs f k way
   put_frame {gs} {fs} {f} k way z a r p l h e = record {
     top = pushed a p (omega (arith, l, length_along (take (length way - k) way) fs)) (ap (along way) e ∙ along_top k way fs f z);
-    all = subst (Reach (length way)) (sym e) (reach_close (length way) k fs f z r h);
+    all = subst (FitsDepth (length way)) (sym e) (reach_close (length way) k fs f z r h);
     below = r;
     reach = h;
     room = l;
@@ -95,7 +95,7 @@ module _ {X : Type 0} where
   pub last_frame : {gs fs : List (Left X)} {f : Left X} {way : List Bool} → IsWalk gs way → gs ≡ fs ++ f ∷ [] → IsLast gs fs f f.3 way
   last_frame {gs} {fs} {f} {way} w e =
       let t = popped w.fit (ap (along way) e ∙ along_top f.3 way fs f refl) in
-      let r = reach_open (length way) f.3 fs f refl (subst (Reach (length way)) e w.reach) in
+      let r = reach_open (length way) f.3 fs f refl (subst (FitsDepth (length way)) e w.reach) in
       record {
         top = t;
         all = w.reach;
@@ -118,12 +118,12 @@ module _ {X : Type 0} where
       )
 
   -- the frame of a node below is on top
-  put_below : (gs : List (Left X)) {hs : List (Left X)} (h : Left X) (way below : List Bool) → FitFrom 0 (along way gs) → Reach (length way) gs → 0 < h.1 → length gs + h.1 ≤ 26 → length below + 5 * h.1 ≤ 130 → take (length below - h.3) below ≡ way → length below ≡ length way + h.3 → hs ≡ gs ++ h ∷ []
-      → IsTop (along below hs) (along way gs) (on_way below h) × Reach (length below) hs
+  put_below : (gs : List (Left X)) {hs : List (Left X)} (h : Left X) (way below : List Bool) → FitFrom 0 (along way gs) → FitsDepth (length way) gs → 0 < h.1 → length gs + h.1 ≤ 26 → length below + 5 * h.1 ≤ 130 → take (length below - h.3) below ≡ way → length below ≡ length way + h.3 → hs ≡ gs ++ h ∷ []
+      → IsTop (along below hs) (along way gs) (on_way below h) × FitsDepth (length below) hs
   put_below gs {hs} h way below a r p l m t n e =
       let d : length way ≡ length below - h.3 = omega (arith, n) in (
         pushed a p (omega (arith, l, length_along way gs)) (ap (along below) e ∙ along_top h.3 below gs h refl ∙ ap (λ w. along w gs ++ on_way below h ∷ []) t),
-        subst (Reach (length below)) (sym e) (reach_close (length below) h.3 gs h refl (subst (λ k. Reach k gs) d r) m),
+        subst (FitsDepth (length below)) (sym e) (reach_close (length below) h.3 gs h refl (subst (λ k. FitsDepth k gs) d r) m),
       )
 
   -- the last frame, which is f and becomes g, is followed by that of the node below, which is h
@@ -145,7 +145,7 @@ module _ {X : Type 0} where
   nothing_left {ds} {fs} {f} {way} {up} w p u z =
       let r : walk_rest (along way ds) ≡ walk_rest (along up fs) = p.top.rest ∙ (λ i. under way (z i) ++ walk_rest (along (sym u i) fs)) in
       let n : length way - f.3 ≡ length up = omega (arith, ap length u, length-take (length way - f.3) way) in (
-        record { fit = subst (λ v. FitFrom 0 (along v fs)) (sym u) p.top.below; reach = subst (λ k. Reach k fs) n p.below; keys = subst (KeysWithin 128) r w.keys },
+        record { fit = subst (λ v. FitFrom 0 (along v fs)) (sym u) p.top.below; reach = subst (λ k. FitsDepth k fs) n p.below; keys = subst (KeysWithin 128) r w.keys },
         r,
         p.top.weight ∙ ap (λ v. f.2 + 1 + walk_weight (along v fs)) (sym u),
       )
@@ -168,7 +168,7 @@ module _ {X : Type 0} where
   -- the frames are those of the nodes above the one at the trail
   pub record IsGoingOn (m n : Seen X) (q p trail : List Bool) (i : Bool) (fs : List (Left X)) : Type 0 where
     pub way : IsOnwards m n q p trail i (along (take (length trail - 5) trail) fs)
-    pub reach : Reach (length trail - 5) fs
+    pub reach : FitsDepth (length trail - 5) fs
 
   pub room_left : {m n : Seen X} {q p trail : List Bool} {i : Bool} {fs : List (Left X)} → IsGoingOn m n q p trail i fs → length fs + n.levels ≤ 26
   room_left {trail = trail} {fs = fs} w = omega (arith, w.way.room, length_along (take (length trail - 5) trail) fs)
@@ -176,7 +176,7 @@ module _ {X : Type 0} where
   pub start_going : {m : Seen X} {q trail : List Bool} (i : Bool) {fs : List (Left X)} → m.levels ≤ 26 → KeysWithin 128 (entries m.entries) → length q ≤ 128 → trail ≡ [] → fs ≡ [] → IsGoingOn m m q q trail i fs
   start_going {trail = trail} i l k h e z = record {
     way = start_onwards i l k h e (ap (along (take (length trail - 5) trail)) z);
-    reach = subst (Reach (length trail - 5)) (sym z) tt;
+    reach = subst (FitsDepth (length trail - 5)) (sym z) tt;
   }
 
   pub put_going : {m n : Seen X} {q p trail : List Bool} {i : Bool} {fs gs : List (Left X)} {f : Left X} → IsGoingOn m n q p trail i fs → f.3 ≡ 5 → 0 < f.1 → f.1 ≤ n.levels → gs ≡ fs ++ f ∷ [] → IsLast gs fs f 5 trail
@@ -188,7 +188,7 @@ module _ {X : Type 0} where
       let u : take (length below - 5) below ≡ trail = (λ j. take (k j) (e j)) ∙ take_at trail (take 5 p) (length trail) refl in
       record {
         way = subst (λ x. IsOnwards m c q r below i (along x gs)) (sym u) (onwards_below w.way h s e d (ap (under trail) v) t.top);
-        reach = subst (λ x. Reach x gs) (sym k) t.all;
+        reach = subst (λ x. FitsDepth x gs) (sym k) t.all;
       }
 
   keys_from : (m : Seen X) (q : List Bool) (i : Bool) → KeysWithin 128 (entries m.entries) → KeysWithin 128 (where_key bits_cmp (is_from q i) (entries m.entries))

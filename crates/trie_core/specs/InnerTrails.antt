@@ -19,12 +19,12 @@ module _ {X : Type 0} where
   along way (f ∷ fs) = on_way (take (length way - bits_of fs) way) f ∷ along way fs
 
   -- the levels of each frame end within 128 bits; the last frame is n bits down
-  abbrev pub Reach : ℕ → List (Left X) → Type 0
-  Reach n [] = Unit {0}
-  Reach n (f ∷ fs) = (n - bits_of fs + 5 * f.1 ≤ 130) × Reach n fs
+  abbrev pub FitsDepth : ℕ → List (Left X) → Type 0
+  FitsDepth n [] = Unit {0}
+  FitsDepth n (f ∷ fs) = (n - bits_of fs + 5 * f.1 ≤ 130) × FitsDepth n fs
 
   -- the frames fit, and no remaining key is longer than 128 bits
   pub record IsWalk (fs : List (Left X)) (way : List Bool) : Type 0 where
     pub fit : FitFrom 0 (along way fs)
-    pub reach : Reach (length way) fs
+    pub reach : FitsDepth (length way) fs
     pub keys : KeysWithin 128 (walk_rest (along way fs))

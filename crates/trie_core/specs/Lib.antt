@@ -3,7 +3,7 @@ pub mod InnerChains
 pub mod InnerFalls
 pub mod InnerLent
 pub mod InnerOwned
-pub mod InnerWithdrawals
+pub mod InnerRemovedBelow
 pub mod Prefixes
 pub mod Nodes
 pub mod Count
@@ -18,7 +18,7 @@ pub mod InnerCount
 pub mod InnerSearch
 pub mod InnerMatches
 pub mod InnerLending
-pub mod InnerExchanges
+pub mod InnerInsertedBelow
 pub mod InnerRemovals
 pub mod InnerWalks
 pub mod InnerTrails

@@ -2,7 +2,7 @@
 ghost use Rattle.std.specs.Prelude.{◌≡◌, ◌+◌, ◌*◌, ◌/◌, ◌<◌, ◌≤◌, ◌^◌, length, Some, None, IsTrue, ◌↔◌, false, ◌-◌, IfNone, IfSome, IfOk, IfErr, OnErr, OnOk, max};
 ghost use Rattle.std.specs.Option.{IsSome};
 ghost use Rattle.std.specs.FinMap as map;
-ghost use Rattle.trie_core.specs.InnerExchanges.{IsStored, bare};
+ghost use Rattle.trie_core.specs.InnerInsertedBelow.{IsStored, bare};
 ghost use Rattle.trie_core.specs.Inside.{NothingInside};
 ghost use Rattle.trie_core.specs.InnerSearch.{HasNoChild, IsLeaf};
 ghost use Rattle.trie_core.specs.InnerPaths.{IsAligned};
@@ -79,7 +79,7 @@ impl<T: Drop> Node<T> {
             is_leaf: false,
         };
         let (bits, len) = path.parts();
-        let is_stored = self.exchange(bits, len, &mut insertion);
+        let is_stored = self.insert_below(bits, len, &mut insertion);
         let Insertion {
             held,
             made,
@@ -228,7 +228,7 @@ impl<T: Drop> Node<T> {
     ///
     /// The compiler makes a loop of this recursion. So the path is two numbers, and functions with variables in memory are not inlined.
     #[cycle(store)]
-    pub(crate) fn exchange(&mut self, bits: u128, len: u8, insertion: &mut Insertion<T>) -> bool
+    pub(crate) fn insert_below(&mut self, bits: u128, len: u8, insertion: &mut Insertion<T>) -> bool
         requires path { IsAligned bits len }
         requires held { IsSome insertion.old.held }
         ensures stored { IsTrue result → IsStored (prefix_bits 128 bits len) insertion.old insertion.new self.old self.new }
@@ -254,7 +254,7 @@ impl<T: Drop> Node<T> {
 }
 
 impl<T: Drop> Branch<T> {
-    /// `exchange` in a branch.
+    /// `insert_below` in a branch.
     #[cycle(store)]
     #[inline(always)]
     fn store(&mut self, path: Path, insertion: &mut Insertion<T>) -> bool
@@ -272,7 +272,7 @@ impl<T: Drop> Branch<T> {
         if let Some(at) = slot(self.child_bits, path.five()) {
             let child = self.body.child_mut(at);
             let (bits, len) = path.rest().parts();
-            return child.exchange(bits, len, insertion);
+            return child.insert_below(bits, len, insertion);
         }
         let (bits, len) = path.parts();
         self.store_below(bits, len, insertion)

@@ -9,7 +9,7 @@ ghost use Rattle.trie_core.specs.InnerPlaces.{place_string, IsLastPlace};
 ghost use Rattle.trie_core.specs.InnerSearch.{IsChild, HasNoChild, NoneBelow, IsLongestAt};
 ghost use Rattle.trie_core.specs.InnerMatches.{IsMatch};
 ghost use Rattle.trie_core.specs.Inside.{NothingInside};
-ghost use Rattle.trie_core.specs.InnerWithdrawals.{IsBare, IsFull};
+ghost use Rattle.trie_core.specs.InnerRemovedBelow.{IsBare, IsFull};
 ghost use Rattle.trie_core.specs.Search.{NoBeginning, IsLongest, IsShortest};
 ghost use Rattle.trie_core.specs.InnerChains.{chain, skipped};
 ghost use Rattle.trie_core.specs.InnerCount.{all_nodes, spare_count};

@@ -2,7 +2,7 @@
 ghost use Rattle.std.specs.Prelude.{◌≡◌, ◌+◌, ◌*◌, ◌<◌, ◌≤◌, [], ◌∷◌, MatchOption, length, count_ones, not, nat_lt, take, drop};
 ghost use Rattle.std.specs.Ordering.{nat_cmp};
 ghost use Rattle.std.specs.FinMap.Entries.{where_key};
-ghost use Rattle.shape.specs.KeptValues.{kept_values};
+ghost use Rattle.shape.specs.OwnedValues.{owned_values};
 ghost use Rattle.trie_core.specs.InnerPlaces.{placed, first_place_of};
 ghost use Rattle.trie_core.specs.InnerSearch.{IsChild, HasNoChild};
 ghost use Rattle.trie_core.specs.InnerWalks.{AreParts};
@@ -17,7 +17,7 @@ use crate::path::Path;
 use crate::slots::{first_place, low_bits, slot};
 use crate::tables::{bit, first_child, place_length};
 use arrayvec::ArrayVec;
-use shape::Kept;
+use shape::OwnedValues;
 use short_vec::ShortVec;
 use std::marker::Model;
 use std::mem;
@@ -173,13 +173,13 @@ impl<X> OwnedPlaces<X> {
     }
 
     /// Makes a list of the values of a branch at the places of a word.
-    fn new(taken: u32, values: Kept<X>) -> OwnedPlaces<X>
-        requires { count_ones taken ≡ length (kept_values values) }
-        ensures { owned_places result ≡ placed taken (kept_values values) }
+    fn new(taken: u32, values: OwnedValues<X>) -> OwnedPlaces<X>
+        requires { count_ones taken ≡ length (owned_values values) }
+        ensures { owned_places result ≡ placed taken (owned_values values) }
     {
         match values {
-            Kept::One(value) => OwnedPlaces::One(first_place(taken), value),
-            Kept::Many(values) => OwnedPlaces::List(Places::new(taken, values)),
+            OwnedValues::One(value) => OwnedPlaces::One(first_place(taken), value),
+            OwnedValues::Many(values) => OwnedPlaces::List(Places::new(taken, values)),
         }
     }
 }

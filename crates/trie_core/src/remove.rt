@@ -1,7 +1,7 @@
 //! Removal of an entry, and the nodes that it removes and joins.
 ghost use Rattle.std.specs.Prelude.{◌≡◌, ◌+◌, ◌*◌, ◌/◌, ◌<◌, ◌≤◌, ◌^◌, length, Some, None, ◌↔◌, ◌-◌, IfOk, IfErr};
 ghost use Rattle.std.specs.FinMap as map;
-ghost use Rattle.trie_core.specs.InnerWithdrawals.{IsWithdrawn};
+ghost use Rattle.trie_core.specs.InnerRemovedBelow.{IsRemovedBelow};
 ghost use Rattle.trie_core.specs.InnerChains.{over, chain, skipped};
 ghost use Rattle.trie_core.specs.InnerCount.{all_nodes};
 ghost use Rattle.trie_core.specs.Ways.{IsPruned};
@@ -31,16 +31,16 @@ impl<T: Drop> Node<T> {
         ensures within { 5 * result.1 ≤ length path }
     {
         let mut held = None;
-        let gone = self.withdraw(path, &mut held);
+        let gone = self.remove_below(path, &mut held);
         (held, gone)
     }
 
     /// `remove`, but the value is returned in `held`, which must be `None` before. Returns the number of nodes removed.
-    #[cycle(withdraw)]
-    pub(crate) fn withdraw(&mut self, path: Path, held: &mut Option<T>) -> u8
+    #[cycle(remove_below)]
+    pub(crate) fn remove_below(&mut self, path: Path, held: &mut Option<T>) -> u8
         requires path { length path ≤ 128 }
         requires held { held.old ≡ None }
-        ensures { IsWithdrawn path self.old result held.new self.new }
+        ensures { IsRemovedBelow path self.old result held.new self.new }
     {
         if !path.starts(self.skip, self.levels) {
             return 0;
@@ -81,12 +81,12 @@ impl<T: Drop> Node<T> {
 }
 
 impl<T: Drop> Branch<T> {
-    /// `withdraw` in a branch.
-    #[cycle(withdraw)]
+    /// `remove_below` in a branch.
+    #[cycle(remove_below)]
     fn take(&mut self, path: Path, held: &mut Option<T>) -> u8
         requires path { length path ≤ 128 }
         requires held { held.old ≡ None }
-        ensures { IsWithdrawn path self.old result held.new self.new }
+        ensures { IsRemovedBelow path self.old result held.new self.new }
     {
         if path.is_short() {
             self.take_here(path, held);
@@ -97,7 +97,7 @@ impl<T: Drop> Branch<T> {
             None => 0,
             Some(at) => {
                 let child = self.body.child_mut(at);
-                let gone = child.withdraw(path.rest(), held);
+                let gone = child.remove_below(path.rest(), held);
                 if child.is_bare() {
                     let _ = self.body.remove_child(at);
                     self.child_bits -= bit(number);
@@ -113,7 +113,7 @@ impl<T: Drop> Branch<T> {
     #[inline(never)]
     fn take_here(&mut self, path: Path, held: &mut Option<T>)
         requires { length path < 5 }
-        ensures { IsWithdrawn path self.old 0 held.new self.new }
+        ensures { IsRemovedBelow path self.old 0 held.new self.new }
     {
         *held = take_value(&mut self.value_bits, &mut self.body, path.place());
     }

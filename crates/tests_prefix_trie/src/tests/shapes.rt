@@ -5,7 +5,7 @@ ghost use Rattle.shape.specs.Shapes.{shape_values};
 
 use crate::tests::maps::step_is;
 use crate::tests::shapes::Step::{Child, ChildWritten, NoChild, NoValue, Value, ValueWritten};
-use shape::{Items, Kept, Shape};
+use shape::{Items, OwnedValues, Shape};
 use std::alloc::Global;
 use std::process::Abort;
 
@@ -138,8 +138,8 @@ fn comes_apart(rt: &impl Abort, at: (&str, usize), shape: Boxes, values: u32, ch
     let (kept, list) = shape.into_lists();
     step_is(rt, at, digits(list.as_slice()), children);
     let found = match kept {
-        Kept::One(value) => value.wrapping_add(10),
-        Kept::Many(list) => digits(list.as_slice()),
+        OwnedValues::One(value) => value.wrapping_add(10),
+        OwnedValues::Many(list) => digits(list.as_slice()),
     };
     step_is(rt, at, found, values);
 }

@@ -1,6 +1,6 @@
 //! Rows of texts: each is read, and the value is printed again.
 use crate::tests::rows::{net, prints, row_is, text_is};
-use route_lines::{Closing, Command, NotALine, Note, Reply, Update};
+use route_lines::{Closing, Command, FibInput, FibUpdate, NotALine, Reply};
 use route_table::{Hop, Operation};
 use std::process::Abort;
 
@@ -22,7 +22,7 @@ fn printed_command(rt: &impl Abort, text: &str, expected: &str) {
 
 /// The same check for a line that an installer writes.
 fn printed_update(rt: &impl Abort, text: &str, expected: &str) {
-    match Update::read(text.as_bytes()) {
+    match FibUpdate::read(text.as_bytes()) {
         Ok(update) => text_is(rt, text, update.print().as_slice(), expected),
         Err(_) => row_is(rt, text, "", expected),
     }
@@ -219,7 +219,7 @@ const HAVES: [(&str, &str, Hop); 5] = [
 ];
 
 fn have_is(rt: &impl Abort, text: &str, network: &str, wanted: Hop) {
-    let Ok(Note::Have { net, hop }) = Note::read(text.as_bytes()) else {
+    let Ok(FibInput::Have { net, hop }) = FibInput::read(text.as_bytes()) else {
         panic!(rt; "no `have`: {text}")
     };
     text_is(rt, text, net.to_text().as_slice(), network);
@@ -271,7 +271,7 @@ const NO_NOTES: [&str; 31] = [
 #[test]
 fn no_notes(rt: HostRuntime) {
     for text in &NO_NOTES {
-        row_is(&rt, *text, Note::read(text.as_bytes()).is_ok(), false);
+        row_is(&rt, *text, FibInput::read(text.as_bytes()).is_ok(), false);
     }
 }
 
@@ -290,24 +290,24 @@ const NOTES: [&str; 11] = [
     "refused",
 ];
 
-fn is_note(rt: &impl Abort, text: &str, wanted: Note) {
-    let note = Note::read(text.as_bytes());
+fn is_note(rt: &impl Abort, text: &str, wanted: FibInput) {
+    let note = FibInput::read(text.as_bytes());
     row_is(rt, text, note == Ok(wanted), true);
 }
 
 #[test]
 fn notes(rt: HostRuntime) {
-    is_note(&rt, "sync", Note::Sync);
+    is_note(&rt, "sync", FibInput::Sync);
     for text in &NOTES {
         let reply = Reply::read(text.as_bytes()).expect(&rt, text);
-        is_note(&rt, text, Note::Reply(reply));
+        is_note(&rt, text, FibInput::Reply(reply));
     }
 }
 
 /// Checks that the text spells this operation.
 fn is_operation(rt: &impl Abort, text: &str, operation: Operation) {
-    let update = Update::read(text.as_bytes()).expect(rt, text);
-    row_is(rt, text, update == Update::from(operation), true);
+    let update = FibUpdate::read(text.as_bytes()).expect(rt, text);
+    row_is(rt, text, update == FibUpdate::from(operation), true);
 }
 
 #[test]
@@ -348,8 +348,8 @@ fn values(rt: HostRuntime) {
 #[test]
 fn plain_lines(rt: HostRuntime) {
     assert!(rt; Reply::read(b"ok") == Ok(Reply::Close(Closing::Done)));
-    assert!(rt; Note::read(b"sync") == Ok(Note::Sync));
-    assert!(rt; Update::read(b"ok") == Ok(Update::Done));
+    assert!(rt; FibInput::read(b"sync") == Ok(FibInput::Sync));
+    assert!(rt; FibUpdate::read(b"ok") == Ok(FibUpdate::Done));
     assert_eq!(rt; Closing::Done.line(), b"ok\n".as_slice());
 }
 

@@ -38,7 +38,7 @@ fn each_third(rt: &impl Abort, alloc: Global) -> RouteTable {
 #[test]
 fn many_blocks_in_one_network(rt: HostRuntime) {
     let table = each_third(&rt, rt.alloc());
-    let index = HopIndex::of_table(rt.alloc(), &table).expect(&rt, "an index");
+    let index = HopIndex::from_table(rt.alloc(), &table).expect(&rt, "an index");
     for block in 0..BLOCKS {
         let ends = [inside(block, false), inside(block, true)];
         let mut hops = [Some(1); 2];
@@ -97,7 +97,7 @@ fn powers6(rt: &impl Abort, alloc: Global) -> RouteTable {
 #[test]
 fn ipv4_hosts_at_powers_of_two(rt: HostRuntime) {
     let table = powers4(&rt, rt.alloc());
-    let index = HopIndex::of_table(rt.alloc(), &table).expect(&rt, "an index");
+    let index = HopIndex::from_table(rt.alloc(), &table).expect(&rt, "an index");
     for power in 1..16_u32 {
         row_is(&rt, "the host", index.hop(host4(power, false)), Some(power));
         row_is(&rt, "after it", index.hop(host4(power, true)), None);
@@ -108,7 +108,7 @@ fn ipv4_hosts_at_powers_of_two(rt: HostRuntime) {
 #[test]
 fn ipv6_hosts_at_powers_of_two(rt: HostRuntime) {
     let table = powers6(&rt, rt.alloc());
-    let index = HopIndex::of_table(rt.alloc(), &table).expect(&rt, "an index");
+    let index = HopIndex::from_table(rt.alloc(), &table).expect(&rt, "an index");
     for power in 1..112_u32 {
         row_is(&rt, "the host", index.hop(host6(power, false)), Some(power));
         row_is(&rt, "after it", index.hop(host6(power, true)), None);

@@ -90,7 +90,7 @@ fn flat_list(rt: &impl Abort, table: &RouteTable) {
 
 /// The hops of addresses, by an index.
 fn indexed<R: Abort + Alloc<A = Global>>(rt: &R, table: &RouteTable) {
-    let index = HopIndex::of_table(rt.alloc(), &table).expect(&rt, "an index");
+    let index = HopIndex::from_table(rt.alloc(), &table).expect(&rt, "an index");
     assert_eq!(rt; index.hop(address(&rt, "10.1.2.3")), Some(2));
     assert_eq!(rt; index.hop(address(&rt, "11.0.0.1")), None);
 }
@@ -106,7 +106,7 @@ fn indexed_at_once<R: Abort + Alloc<A = Global>>(rt: &R, table: &RouteTable) {
 
 /// The same hops of numbers.
 fn indexed_numbers<R: Abort + Alloc<A = Global>>(rt: &R, table: &RouteTable) {
-    let index = HopIndex::of_table(rt.alloc(), &table).expect(&rt, "an index");
+    let index = HopIndex::from_table(rt.alloc(), &table).expect(&rt, "an index");
     let addrs = [0x0a01_0203_u32, 0x0b00_0001];
     let mut hops = [None; 2];
     index.hops_of(&addrs, &mut hops);

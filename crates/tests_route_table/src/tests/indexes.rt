@@ -139,7 +139,7 @@ fn batches_are(rt: &impl Abort, index: &HopIndex) {
 
 /// An index of the table.
 fn index_of(rt: &impl Abort, alloc: Global, table: &RouteTable) -> HopIndex {
-    HopIndex::of_table(alloc, table).expect(rt, "an index")
+    HopIndex::from_table(alloc, table).expect(rt, "an index")
 }
 
 /// Checks the hops by an index of a table of these routes.
@@ -173,7 +173,7 @@ pub(crate) fn indexes_are(rt: &impl Abort, alloc: Global, table: &RouteTable) {
     hops_are(rt, &index);
     batches_are(rt, &index);
     let best = best(rt, alloc, table);
-    let index = HopIndex::of_hops(alloc, &best).expect(rt, "an index");
+    let index = HopIndex::from_hop_table(alloc, &best).expect(rt, "an index");
     hops_are(rt, &index);
 }
 

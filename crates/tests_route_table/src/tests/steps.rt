@@ -67,9 +67,9 @@ pub(crate) enum Step {
     LeastCount(usize),
     /// `least`: the number of routes. A table made of them has the same flat list.
     BuiltBack(usize),
-    /// `HopIndex::of_table` and `HopIndex::of_hops`: the hops of the routes in `indexes.rt`.
+    /// `HopIndex::from_table` and `HopIndex::from_hop_table`: the hops of the routes in `indexes.rt`.
     Index,
-    /// `HopIndex::of_table` before a route to this network is added: no hop.
+    /// `HopIndex::from_table` before a route to this network is added: no hop.
     IndexBefore(&'static str),
 }
 

@@ -6,4 +6,4 @@ use Rattle.ipnet_blocks.proofs.aggregate.blocks_of.Given as goal
 
 abbrev pub invariant-loop-span : goal.invariant-loop-span
 invariant-loop-span g l =
-    map g.N.OfFamily.parts l.blocks.items ≡ flat_map (λ s. subnets g.N.OfFamily.family (limits_of s)) (take l.span-index l.span-items)
+    map g.N.Spanned.parts l.blocks.items ≡ flat_map (λ s. subnets g.N.Spanned.family (limits_of s)) (take l.span-index l.span-items)

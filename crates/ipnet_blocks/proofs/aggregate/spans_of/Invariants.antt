@@ -5,6 +5,6 @@ use Rattle.ipnet_blocks.proofs.aggregate.spans_of.Given as goal
 
 abbrev pub invariant-loop-network : goal.invariant-loop-network
 invariant-loop-network g l = record {
-  spans : l.spans.items ≡ map (λ n. span_of g.N.OfFamily.family (g.N.OfFamily.parts n)) (take l.network-index l.network-items);
-  fit : All (λ s. s.last < 2 ^ width g.N.OfFamily.family) l.spans.items;
+  spans : l.spans.items ≡ map (λ n. span_of g.N.Spanned.family (g.N.Spanned.parts n)) (take l.network-index l.network-items);
+  fit : All (λ s. s.last < 2 ^ width g.N.Spanned.family) l.spans.items;
 }

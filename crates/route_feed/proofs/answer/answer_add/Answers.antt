@@ -4,7 +4,7 @@ use Rattle.route_lines.specs.declared.command.Command.TheVariants.{Add}
 use Rattle.route_choices.specs.Choices.{Choice, choices_with}
 use Rattle.route_laws.specs.Networks.{IsStoredTable, choices_at}
 use Rattle.route_laws.proofs.Networks.{with_some}
-use Rattle.route_feed.proofs.Told.{Closes-change, changed_is, plain_step, refused_step}
+use Rattle.route_feed.proofs.AnsweredChanges.{Closes-change, changed_is, plain_step, refused_step}
 use Rattle.route_feed.proofs.answer.answer_add.Goals as goal
 
 pub returns-in-Ok : goal.returns-in-Ok

@@ -4,7 +4,7 @@ use Rattle.route_choices.specs.Choices.{choices_without, holds_hop}
 use Rattle.route_choices.proofs.ChoiceLists.{without_are}
 use Rattle.route_laws.specs.Networks.{choices_at}
 use Rattle.route_laws.proofs.Networks.{at_are}
-use Rattle.route_feed.proofs.Told.{Closes-change, held_is, none_left}
+use Rattle.route_feed.proofs.AnsweredChanges.{Closes-change, held_is, none_left}
 use Rattle.route_feed.proofs.answer.answer_del.Goals as goal
 
 pub returns-in-Some : goal.returns-in-Some

@@ -1,5 +1,5 @@
 use Rattle.std.proofs.Common.{sym, ◌∙◌}
-use Rattle.route_feed.proofs.Told.{found_is_printable}
+use Rattle.route_feed.proofs.AnsweredChanges.{found_is_printable}
 use Rattle.route_feed.proofs.answer.answer_get.Goals as goal
 
 pub reply-requires-clause-body : goal.reply-requires-clause-body

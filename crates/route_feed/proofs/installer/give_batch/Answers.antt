@@ -1,5 +1,5 @@
 use Rattle.std.proofs.lemmas.Result.{err_from_is_err_and}
-use Rattle.route_feed.proofs.Batching.{Closes-batch, Torn-batch}
+use Rattle.route_feed.proofs.GiveBatch.{Closes-batch, Torn-batch}
 use Rattle.route_feed.proofs.installer.give_batch.Goals as goal
 
 pub returns-in_err-write_operations : goal.returns-in_err-write_operations

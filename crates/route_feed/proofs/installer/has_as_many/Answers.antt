@@ -1,7 +1,7 @@
 use Rattle.std.proofs.Common.{ℕ, ◌-◌, length, ap, arith}
 use Rattle.std.proofs.lemmas.Bool.{eqb-false, eqb-true}
 use Rattle.route_laws.specs.Networks.{routes_of}
-use Rattle.route_feed.proofs.Noting.{counts_all}
+use Rattle.route_feed.proofs.TakesNote.{counts_all}
 use Rattle.route_feed.proofs.installer.has_as_many.Goals as goal
 
 pub returns-then-v4-list-clause-same : goal.returns-then-v4-list-clause-same

@@ -3,7 +3,7 @@ use Rattle.route_laws.specs.LeastTables.{routes_for}
 use Rattle.route_laws.specs.Networks.{routes_of}
 use Rattle.route_laws.specs.Operations.{after_all}
 use Rattle.route_table.specs.Operations.{operation_of}
-use Rattle.route_feed.proofs.Noting.{between_after, nearest_after}
+use Rattle.route_feed.proofs.TakesNote.{between_after, nearest_after}
 use Rattle.route_feed.proofs.installer.update.Goals as goal
 
 pub returns-clause-nearest : goal.returns-clause-nearest

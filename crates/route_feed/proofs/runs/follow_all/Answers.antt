@@ -1,5 +1,5 @@
 use Rattle.std.proofs.lemmas.Result.{err_from_is_err_and}
-use Rattle.route_feed.proofs.Ending.{reached, stopped}
+use Rattle.route_feed.proofs.FollowThen.{reached, stopped}
 use Rattle.route_feed.proofs.runs.follow_all.Goals as goal
 
 pub returns-in_err-run : goal.returns-in_err-run

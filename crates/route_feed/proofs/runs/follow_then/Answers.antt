@@ -1,6 +1,6 @@
 use Rattle.std.proofs.Common.{arith}
 use Rattle.std.proofs.lemmas.Result.{err_from_is_err_and}
-use Rattle.route_feed.proofs.Ending.{follow_stopped, follow_ended, follow_known}
+use Rattle.route_feed.proofs.FollowThen.{follow_stopped, follow_ended, follow_known}
 use Rattle.route_feed.proofs.runs.follow_then.Goals as goal
 
 pub returns-in_err-follower-clause-ends : goal.returns-in_err-follower-clause-ends

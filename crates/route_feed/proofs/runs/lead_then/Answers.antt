@@ -1,6 +1,6 @@
 use Rattle.std.proofs.Common.{arith}
 use Rattle.std.proofs.lemmas.Result.{err_from_is_err_and}
-use Rattle.route_feed.proofs.Leading.{lead_stopped, lead_counts, lead_ended, lead_known}
+use Rattle.route_feed.proofs.LeadThen.{lead_stopped, lead_counts, lead_ended, lead_known}
 use Rattle.route_feed.proofs.runs.lead_then.Goals as goal
 
 pub returns-in_err-rest-clause-ends : goal.returns-in_err-rest-clause-ends

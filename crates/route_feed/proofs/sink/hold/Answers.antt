@@ -1,7 +1,7 @@
 use Rattle.std.proofs.Common.{◌<◌, ◌∷◌, [], length, take, get_or, sym, ap, ◌∙◌, arith}
 use Rattle.std.proofs.lemmas.List.{take_more}
 use Rattle.route_lines.specs.Lines.{fed}
-use Rattle.route_feed.proofs.Taking.{fed_all-append}
+use Rattle.route_feed.proofs.SinkRun.{fed_all-append}
 use Rattle.route_feed.proofs.sink.hold.Goals as goal
 
 pub loop-byte-preserved : goal.loop-byte-preserved

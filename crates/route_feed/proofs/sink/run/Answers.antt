@@ -3,7 +3,7 @@ use Rattle.std.proofs.KnownBytes.{Consumes-kept}
 use Rattle.std.proofs.lemmas.Result.{err_from_is_err_and}
 use Rattle.route_lines.specs.Lines.{rest_in}
 use Rattle.route_lines.proofs.Cutting.{new_rest_in}
-use Rattle.route_feed.proofs.Taking.{Went-nil, Went-more, went_lines}
+use Rattle.route_feed.proofs.SinkRun.{Went-nil, Went-more, went_lines}
 use Rattle.route_feed.proofs.sink.run.Goals as goal
 
 pub loop-read-init : goal.loop-read-init

@@ -1,5 +1,5 @@
 use Rattle.std.proofs.Common.{◌≡◌, ◌+◌, Ok}
-use Rattle.route_feed.proofs.Taking.{Went}
+use Rattle.route_feed.proofs.SinkRun.{Went}
 use Rattle.route_feed.proofs.sink.run.Given as goal
 
 abbrev pub invariant-loop-read : goal.invariant-loop-read

@@ -1,6 +1,6 @@
 use Rattle.std.proofs.Common.{◌≡◌, sym, subst, rules, []}
 use Rattle.route_lines.specs.Lines.{kept_of}
-use Rattle.route_feed.proofs.Taking.{takes_new, takes_held}
+use Rattle.route_feed.proofs.SinkRun.{takes_new, takes_held}
 use Rattle.route_feed.proofs.sink.take_line.Goals as goal
 
 pub returns-then-is_new-clause-takes : goal.returns-then-is_new-clause-takes

@@ -3,7 +3,7 @@ use Rattle.std.proofs.lemmas.Result.{err_from_is_err_and}
 use Rattle.route_lines.proofs.Cutting.{new_after, quiet}
 use Rattle.route_lines.specs.Lines.{answers, fed_all}
 use Rattle.route_feed.specs.InnerRun.{TakesAll}
-use Rattle.route_feed.proofs.Taking.{at_end, none_found, takes_more, takes_longer, fed_all-append}
+use Rattle.route_feed.proofs.SinkRun.{at_end, none_found, takes_more, takes_longer, fed_all-append}
 use Rattle.route_feed.proofs.sink.take_piece.Goals as goal
 
 pub returns-in_err-take_line-clause-takes : goal.returns-in_err-take_line-clause-takes

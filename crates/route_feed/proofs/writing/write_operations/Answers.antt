@@ -2,8 +2,8 @@ use Rattle.std.proofs.Common.{ap, ◌∙◌}
 use Rattle.std.proofs.lemmas.Result.{err_from_is_err_and}
 use Rattle.route_feed.specs.InnerInstalling.{operation_bytes}
 use Rattle.route_feed.specs.InnerLines.{update_line}
-use Rattle.route_feed.proofs.Batching.{next_line}
-use Rattle.route_feed.proofs.Telling.{Told-all, Told-more, Told-nil, Told-torn}
+use Rattle.route_feed.proofs.GiveBatch.{next_line}
+use Rattle.route_feed.proofs.WriteLines.{Told-all, Told-more, Told-nil, Told-torn}
 use Rattle.route_feed.proofs.writing.write_operations.Goals as goal
 
 pub loop-operation-init : goal.loop-operation-init

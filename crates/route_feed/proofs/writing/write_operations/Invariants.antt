@@ -1,6 +1,6 @@
 use Rattle.std.proofs.Common.{length}
 use Rattle.route_feed.specs.InnerInstalling.{operation_bytes}
-use Rattle.route_feed.proofs.Telling.{Told}
+use Rattle.route_feed.proofs.WriteLines.{Told}
 use Rattle.route_feed.proofs.writing.write_operations.Given as goal
 
 abbrev pub invariant-loop-operation : goal.invariant-loop-operation

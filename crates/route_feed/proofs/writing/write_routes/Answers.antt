@@ -5,10 +5,10 @@ use Rattle.ipnet.specs.IpNets.{family, parts}
 use Rattle.ipnet.specs.declared.ip_net.IpNet.{IpNet}
 use Rattle.ipnet_blocks.specs.Networks.{IsTruncated}
 use Rattle.route_choices.specs.declared.hop.Hop.{Hop}
-use Rattle.route_table.proofs.Looks.{network_is}
+use Rattle.route_table.proofs.BetweenSteps.{network_is}
 use Rattle.route_feed.specs.InnerLines.{AreTruncated}
-use Rattle.route_feed.proofs.Adding.{add_bytes, next_add}
-use Rattle.route_feed.proofs.Telling.{Told-all, Told-more, Told-torn}
+use Rattle.route_feed.proofs.WriteRoutes.{add_bytes, next_add}
+use Rattle.route_feed.proofs.WriteLines.{Told-all, Told-more, Told-torn}
 use Rattle.route_feed.proofs.Written.{Delivers-after}
 use Rattle.route_feed.proofs.writing.write_routes.Goals as goal
 

@@ -1,6 +1,6 @@
 use Rattle.route_feed.specs.InnerLines.{AreTruncated}
-use Rattle.route_feed.proofs.Adding.{add_bytes}
-use Rattle.route_feed.proofs.Telling.{Told}
+use Rattle.route_feed.proofs.WriteRoutes.{add_bytes}
+use Rattle.route_feed.proofs.WriteLines.{Told}
 use Rattle.route_feed.proofs.writing.write_routes.Given as goal
 
 abbrev pub invariant-loop-net : goal.invariant-loop-net

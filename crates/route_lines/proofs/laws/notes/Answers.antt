@@ -1,6 +1,6 @@
 use Rattle.route_lines.proofs.Spells.{note_found}
 use Rattle.route_lines.proofs.Notes as own
-use Rattle.route_lines.specs.declared.note.Note.TheVariants as N
+use Rattle.route_lines.specs.declared.fib_input.FibInput.TheVariants as N
 use Rattle.route_lines.proofs.laws.notes.Goals as goal
 
 pub returns : goal.returns

@@ -7,12 +7,12 @@ use Rattle.route_table.proofs.covered.next_span.Goals as goal
 
 pub returns : goal.returns
 returns g c =
-    let f = g.P.OfFamily.family in
-    let m = g.P.OfFamily.parts c.in_ok-net.net in
+    let f = g.P.FamilyNet.family in
+    let m = g.P.FamilyNet.parts c.in_ok-net.net in
     let same = ap (λ n. block n) c.ip_net.ensures in (
       route_of (net_in f m) c.in_ok-net.field-0-1 c.in_ok-net.field-0-2,
       c.in_ok-net.ensures.0,
-      c.prefix_len.ensures.value ∙ length_of_bits f m _ (g.met.P.OfFamily.bits_are c.in_ok-net.net) ∙ sym (ap (λ b. b.len) (block_in_family f m _ refl)),
+      c.prefix_len.ensures.value ∙ length_of_bits f m _ (g.met.P.FamilyNet.bits_are c.in_ok-net.net) ∙ sym (ap (λ b. b.len) (block_in_family f m _ refl)),
       c.span.ensures.first ∙ ap first same,
       c.span.ensures.last ∙ ap last same,
     )

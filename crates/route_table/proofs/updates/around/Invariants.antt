@@ -9,7 +9,7 @@ use Rattle.route_table.proofs.updates.around.Given as goal
 
 -- the block contains each network that is not left
 abbrev pub invariant-loop-path : goal.invariant-loop-path
-invariant-loop-path g l = (length l.block ≤ width g.P.OfFamily.family) × ((r : Route) → In r (routes_of l.side) → (begins l.block (bit_string r.block) ≡ true) ⊎ In r l.routes)
+invariant-loop-path g l = (length l.block ≤ width g.P.FamilyNet.family) × ((r : Route) → In r (routes_of l.side) → (begins l.block (bit_string r.block) ≡ true) ⊎ In r l.routes)
 
 abbrev pub decreases-loop-path : goal.decreases-loop-path
 decreases-loop-path g l = length l.routes

@@ -3,7 +3,7 @@ use Rattle.route_table.proofs.Updating.{network_of_bits}
 use Rattle.route_table.proofs.updates.network.Goals as goal
 
 pub prefix_of-requires : goal.prefix_of-requires
-prefix_of-requires g c = subst (λ w. length c.args.path.now ≤ w) (sym g.met.P.OfFamily.width_is) c.requires
+prefix_of-requires g c = subst (λ w. length c.args.path.now ≤ w) (sym g.met.P.FamilyNet.width_is) c.requires
 
 pub returns : goal.returns
-returns g c = c.ip_net.ensures ∙ network_of_bits g.P.OfFamily.family g.P.Prefix.of_bits g.P.OfFamily.parts g.met.P.OfFamily.parts_are c.args.path.now c.requires _ c.prefix_of.ensures.key
+returns g c = c.ip_net.ensures ∙ network_of_bits g.P.FamilyNet.family g.P.Prefix.of_bits g.P.FamilyNet.parts g.met.P.FamilyNet.parts_are c.args.path.now c.requires _ c.prefix_of.ensures.key

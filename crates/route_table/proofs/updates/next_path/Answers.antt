@@ -7,10 +7,10 @@ use Rattle.route_table.proofs.updates.next_path.Goals as goal
 
 pub returns : goal.returns
 returns g c =
-    let f = g.P.OfFamily.family in
-    let n = g.P.OfFamily.parts c.in_ok-net.net in (
+    let f = g.P.FamilyNet.family in
+    let n = g.P.FamilyNet.parts c.in_ok-net.net in (
       route_of (net_in f n) c.in_ok-net.field-0-1 c.in_ok-net.field-0-2,
       c.in_ok-net.ensures.0,
-      ap bit_string (block_of-net_in f n) ∙ sym (c.path_of.ensures.value ∙ g.met.P.OfFamily.bits_are c.in_ok-net.net),
-      subst (λ w. length c.path_of.result ≤ w) g.met.P.OfFamily.width_is c.path_of.ensures.width,
+      ap bit_string (block_of-net_in f n) ∙ sym (c.path_of.ensures.value ∙ g.met.P.FamilyNet.bits_are c.in_ok-net.net),
+      subst (λ w. length c.path_of.result ≤ w) g.met.P.FamilyNet.width_is c.path_of.ensures.width,
     )

@@ -6,7 +6,7 @@ use Rattle.route_table.proofs.updates.push_install.Goals as goal
 
 pub returns-in_ok-push : goal.returns-in_ok-push
 returns-in_ok-push g c =
-    let f = g.P.OfFamily.family in
+    let f = g.P.FamilyNet.family in
     let path = c.args.path.now in
     let old = c.args.operations.now.items in
     subst (λ e. AddsInstalls f ((path, e) ∷ []) old c.push.new.self.items) (sym c.in-Some.is)

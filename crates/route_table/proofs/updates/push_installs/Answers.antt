@@ -6,7 +6,7 @@ use Rattle.route_table.proofs.updates.push_installs.Goals as goal
 
 pub loop-path-preserved : goal.loop-path-preserved
 loop-path-preserved g c =
-    let f = g.P.OfFamily.family in
+    let f = g.P.FamilyNet.family in
     let e = c.in-Some.field-0-0.now in
     let front = c.in-Some.front.now in
     let old = c.loop-path.operations.items in (
@@ -16,6 +16,6 @@ loop-path-preserved g c =
 
 pub returns : goal.returns
 returns g c =
-    let f = g.P.OfFamily.family in
+    let f = g.P.FamilyNet.family in
     let old = c.loop-path.operations.items in
     c.loop-path.invariant.1 old (subst (λ es. AddsInstalls f es old old) (sym (none_left c.loop-path.rest.now c.in_default.ensures.cases)) (no_installs f old))

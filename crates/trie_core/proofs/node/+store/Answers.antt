@@ -2,7 +2,7 @@ use Rattle.std.proofs.Common.{◌≡◌, ℕ, ◌+◌, ◌-◌, ◌*◌, ◌/◌
 use Rattle.std.specs.Prelude.{Option, Some, None, IsTrue, ◌↔◌}
 use Rattle.std.specs.FinMap.{get}
 use Rattle.shape.specs.Shapes.{shape_values, shape_children}
-use Rattle.trie_core.specs.InnerExchanges.{IsExchanged, IsStored, bare}
+use Rattle.trie_core.specs.InnerInsertedBelow.{IsInsertedBelow, IsStored, bare}
 use Rattle.trie_core.specs.InnerChains.{chain, skipped, Starts}
 use Rattle.trie_core.specs.InnerPlaces.{child_of, IsUnset}
 use Rattle.trie_core.specs.InnerSearch.{HasNoChild, IsLeaf}
@@ -15,7 +15,7 @@ use Rattle.trie_core.proofs.Visits.{visits_some_node}
 use Rattle.trie_core.specs.Count.{node_visits}
 use Rattle.std.proofs.Math.ListN.{length-drop}
 use Rattle.trie_core.proofs.Changes.{way, was, child_slots}
-use Rattle.trie_core.proofs.Exchanges.{not_short, exchanged_below, exchanged_new, leaf_in, leaf_new}
+use Rattle.trie_core.proofs.InsertedBelow.{not_short, exchanged_below, exchanged_new, leaf_in, leaf_new}
 use Rattle.trie_core.proofs.SkippedLeaves.{skipped_leaf}
 use Rattle.trie_core.proofs.Shapes.{written, values_as}
 use Rattle.trie_core.proofs.Skipped.{skipped_get, skipped_none, skipped_exchanged, made_new, not_true}
@@ -30,29 +30,29 @@ pub Branch::store-returns-in-Some-clause-stored : goal.Branch::store-returns-in-
 Branch::store-returns-in-Some-clause-stored g t c h =
     let s = seen c.self.invariant c.self.view_is in
     let o = c.args.insertion.now in
-    let x = c.exchange.ensures.stored h in
-    subst (IsStored c.args.path o c.exchange.new.insertion c.args.self.now) (written c.self.inside.value_bits c.self.inside.child_bits c.in-Some.at c.exchange.new.self c.self.inside.body)
-    (exchanged_below c.args.path c.child_mut-child.result.now c.exchange.new.self s (not_short c.args.path c.is_short.ensures c.if-is_short.false) (way c.args.path s c.five.ensures.value c.in-Some.ensures) c.child_mut-child.ensures.value (c.parts-bits-in-Some.ensures.string ∙ c.rest.ensures) c.requires.held x)
+    let x = c.insert_below.ensures.stored h in
+    subst (IsStored c.args.path o c.insert_below.new.insertion c.args.self.now) (written c.self.inside.value_bits c.self.inside.child_bits c.in-Some.at c.insert_below.new.self c.self.inside.body)
+    (exchanged_below c.args.path c.child_mut-child.result.now c.insert_below.new.self s (not_short c.args.path c.is_short.ensures c.if-is_short.false) (way c.args.path s c.five.ensures.value c.in-Some.ensures) c.child_mut-child.ensures.value (c.parts-bits-in-Some.ensures.string ∙ c.rest.ensures) c.requires.held x)
 
 pub Branch::store-returns-in-Some-clause-absent : goal.Branch::store-returns-in-Some-clause-absent
 Branch::store-returns-in-Some-clause-absent g t c h =
     let s = seen c.self.invariant c.self.view_is in
     let e = c.parts-bits-in-Some.ensures.string ∙ c.rest.ensures in
     let w = was c.args.path c.child_mut-child.result.now s (not_short c.args.path c.is_short.ensures c.if-is_short.false) (way c.args.path s c.five.ensures.value c.in-Some.ensures) c.child_mut-child.ensures.value in
-    sym w ∙ ap (get c.child_mut-child.result.now.entries) (sym e) ∙ c.exchange.ensures.absent h
+    sym w ∙ ap (get c.child_mut-child.result.now.entries) (sym e) ∙ c.insert_below.ensures.absent h
 
 pub Branch::store-returns-in-Some-clause-leaf : goal.Branch::store-returns-in-Some-clause-leaf
 Branch::store-returns-in-Some-clause-leaf g t c h =
     let s = seen c.self.invariant c.self.view_is in
     let l = not_short c.args.path c.is_short.ensures c.if-is_short.false in
     let k = way c.args.path s c.five.ensures.value c.in-Some.ensures in
-    let d = c.exchange.new.self in
+    let d = c.insert_below.new.self in
     let w = written c.self.inside.value_bits c.self.inside.child_bits c.in-Some.at d c.self.inside.body in
-    subst (λ m. IsTrue c.exchange.new.insertion.is_leaf ↔ IsLeaf m c.args.path) w
-    (leaf_in c.args.path d s l k (c.parts-bits-in-Some.ensures.string ∙ c.rest.ensures) (c.exchange.ensures.leaf h))
+    subst (λ m. IsTrue c.insert_below.new.insertion.is_leaf ↔ IsLeaf m c.args.path) w
+    (leaf_in c.args.path d s l k (c.parts-bits-in-Some.ensures.string ∙ c.rest.ensures) (c.insert_below.ensures.leaf h))
 
-pub Branch::store-exchange-requires : goal.Branch::store-exchange-requires
-Branch::store-exchange-requires g t c κs within =
+pub Branch::store-insert_below-requires : goal.Branch::store-insert_below-requires
+Branch::store-insert_below-requires g t c κs within =
     let n = c.parts-bits-in-Some.ensures.len ∙ ap length c.rest.ensures ∙ length-drop 5 c.args.path in
     (omega (arith, n, not_short c.args.path c.is_short.ensures c.if-is_short.false), (within, (c.parts-bits-in-Some.ensures.aligned, c.requires.held)))
 
@@ -66,23 +66,23 @@ Branch::store-store_below-requires-clause-free g t c =
 
 -- ---- in a node
 
-pub Node::exchange-returns-then-not-leads-clause-absent : goal.Node::exchange-returns-then-not-leads-clause-absent
-Node::exchange-returns-then-not-leads-clause-absent g t c h =
+pub Node::insert_below-returns-then-not-leads-clause-absent : goal.Node::insert_below-returns-then-not-leads-clause-absent
+Node::insert_below-returns-then-not-leads-clause-absent g t c h =
     ap (get c.args.self.now.entries) (sym c.of_parts-path.ensures.string)
     ∙ skipped_none c.self.inside.levels c.self.inside.skip c.of_parts-path.result c.self.inside.branch c.args.self.now c.self.view_is (c.if-not-leads.ensures.leaves refl)
 
-pub Node::exchange-returns-clause-stored : goal.Node::exchange-returns-clause-stored
-Node::exchange-returns-clause-stored g t c h =
+pub Node::insert_below-returns-clause-stored : goal.Node::insert_below-returns-clause-stored
+Node::insert_below-returns-clause-stored g t c h =
     subst (λ p. IsStored p c.args.insertion.now c.store.new.insertion c.args.self.now (chain c.leads.new.levels (skipped c.leads.new.levels c.leads.new.skip) c.store.new.self)) c.of_parts-path.ensures.string
     (skipped_exchanged c.leads.new.levels c.leads.new.skip c.leads.new.branch c.store.new.self (c.leads.ensures.same ∙ c.self.view_is) (c.if-not-leads.ensures.starts refl) c.past.ensures c.requires.held (c.store.ensures.stored h))
 
-pub Node::exchange-returns-clause-leaf : goal.Node::exchange-returns-clause-leaf
-Node::exchange-returns-clause-leaf g t c h =
+pub Node::insert_below-returns-clause-leaf : goal.Node::insert_below-returns-clause-leaf
+Node::insert_below-returns-clause-leaf g t c h =
     subst (λ p. IsTrue c.store.new.insertion.is_leaf ↔ IsLeaf (chain c.leads.new.levels (skipped c.leads.new.levels c.leads.new.skip) c.store.new.self) p) c.of_parts-path.ensures.string
     (skipped_leaf c.leads.new.levels c.leads.new.skip c.of_parts-path.result c.past.result c.store.new.self refl (c.if-not-leads.ensures.starts refl) c.past.ensures (c.store.ensures.leaf h))
 
-pub Node::exchange-returns-clause-absent : goal.Node::exchange-returns-clause-absent
-Node::exchange-returns-clause-absent g t c h =
+pub Node::insert_below-returns-clause-absent : goal.Node::insert_below-returns-clause-absent
+Node::insert_below-returns-clause-absent g t c h =
     ap (get c.args.self.now.entries) (sym c.of_parts-path.ensures.string)
     ∙ skipped_get c.leads.new.levels c.leads.new.skip c.of_parts-path.result c.past.result c.leads.new.branch c.args.self.now (c.leads.ensures.same ∙ c.self.view_is) (c.if-not-leads.ensures.starts refl) c.past.ensures
     ∙ c.store.ensures.absent h

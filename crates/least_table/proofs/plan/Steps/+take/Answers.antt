@@ -24,7 +24,7 @@ returns-in-Leaf-clause-stores g t c = if_ok_map c.add_own.result
     let left = left_of c.args.self.now c.pop.new.self in
     let old = c.args.routes.now in
     let f = leaf_of (g.P.R.Key.width - length c.args.path.now) c.args.self.now c.pop.new.self c.in-Some.step c.in-Some.ensures xs p ends (sym c.shape.ensures ∙ c.in-Leaf.is) in
-    leaf_stores c.args.path.now c.args.handed c.choice-hop.result.0 c.choice-hop.result.1 _ c.choice-hop.ensures.hop c.choice-hop.ensures.route g.P.Prefix.bits (g.P.R.Key.width - length c.args.path.now) xs p (step_of c.args.self.now.sets c.in-Some.step) left left left c.args.self.now old old old c.add_own.new.self refl e f.0 f.1 f.2 f.3 f.4 refl)
+    leaf_stores c.args.path.now c.args.inherited c.choice-hop.result.0 c.choice-hop.result.1 _ c.choice-hop.ensures.hop c.choice-hop.ensures.route g.P.Prefix.bits (g.P.R.Key.width - length c.args.path.now) xs p (step_of c.args.self.now.sets c.in-Some.step) left left left c.args.self.now old old old c.add_own.new.self refl e f.0 f.1 f.2 f.3 f.4 refl)
     c.add_own.ensures.routes
 
 pub extended-requires : goal.extended-requires
@@ -52,7 +52,7 @@ returns-in_ok-add_other-in-Pair-2-clause-stores g t c = if_ok_map c.add_own-in-P
     (λ _ e xs p ends.
     let left = left_of c.args.self.now c.pop.new.self in
     let f = pair_of (g.P.R.Key.width - length c.args.path.now) c.args.self.now c.pop.new.self c.in-Some.step c.in-Some.ensures xs p ends c.in-Pair.low c.in-Pair.high (sym c.shape.ensures ∙ c.in-Pair.is) in
-    pair_stores c.args.path.now c.args.handed c.choice-hop.result.0 c.choice-hop.result.1 _ c.choice-hop.ensures.hop c.choice-hop.ensures.route g.P.Prefix.bits (g.P.R.Key.width - length c.args.path.now) xs p (step_of c.args.self.now.sets c.in-Some.step) left left left c.args.self.now _ _ _ _ refl e c.in-Pair.low c.in-Pair.high f.0 f.1 c.extended.result c.extended-in-Pair.result c.extended.ensures c.extended-in-Pair.ensures c.in_ok-add_other-in-Pair.ensures.routes c.in_ok-add_other-in-Pair-2.ensures.routes)
+    pair_stores c.args.path.now c.args.inherited c.choice-hop.result.0 c.choice-hop.result.1 _ c.choice-hop.ensures.hop c.choice-hop.ensures.route g.P.Prefix.bits (g.P.R.Key.width - length c.args.path.now) xs p (step_of c.args.self.now.sets c.in-Some.step) left left left c.args.self.now _ _ _ _ refl e c.in-Pair.low c.in-Pair.high f.0 f.1 c.extended.result c.extended-in-Pair.result c.extended.ensures c.extended-in-Pair.ensures c.in_ok-add_other-in-Pair.ensures.routes c.in_ok-add_other-in-Pair-2.ensures.routes)
     c.add_own-in-Pair.ensures.routes
 
 pub extended-requires-in-Fork : goal.extended-requires-in-Fork
@@ -88,7 +88,7 @@ returns-in_ok-take-in-Fork-2-clause-stores g t c = if_ok_map c.add_own-in-Fork.r
     let long = half_length c.args.path.now c.extended-in-Fork-2.result false c.extended-in-Fork-2.ensures in
     let s = c.in_ok-take-in-Fork.ensures.stores (xs ++ steps_of f.low) f.high (ends_at _ _ _ _ _ (omega (arith, up, f.deep)) f.above) in
     let u = c.in_ok-take-in-Fork-2.ensures.stores xs f.low (ends_at _ _ _ _ _ (omega (arith, long, f.deep)) (low_ends _ _ _ _ _ _ f s.steps s.whole)) in
-    fork_stores c.args.path.now c.args.handed c.choice-hop.result.0 c.choice-hop.result.1 _ c.choice-hop.ensures.hop c.choice-hop.ensures.route g.P.Prefix.bits (g.P.R.Key.width - length c.args.path.now) xs p (step_of c.args.self.now.sets c.in-Some.step) left _ _ c.args.self.now _ _ _ _ refl e f c.extended-in-Fork.result c.extended-in-Fork-2.result c.extended-in-Fork.ensures c.extended-in-Fork-2.ensures s u)
+    fork_stores c.args.path.now c.args.inherited c.choice-hop.result.0 c.choice-hop.result.1 _ c.choice-hop.ensures.hop c.choice-hop.ensures.route g.P.Prefix.bits (g.P.R.Key.width - length c.args.path.now) xs p (step_of c.args.self.now.sets c.in-Some.step) left _ _ c.args.self.now _ _ _ _ refl e f c.extended-in-Fork.result c.extended-in-Fork-2.result c.extended-in-Fork.ensures c.extended-in-Fork-2.ensures s u)
     c.add_own-in-Fork.ensures.routes
 
 pub extended-requires-in-Lower : goal.extended-requires-in-Lower
@@ -119,7 +119,7 @@ returns-in_ok-take-in-Lower-clause-stores g t c = if_ok_map c.add_own-in-Lower.r
     let f = lower_of (g.P.R.Key.width - length c.args.path.now) c.args.self.now c.pop.new.self c.in-Some.step c.in-Some.ensures xs p ends c.in-Lower.other (sym c.shape.ensures ∙ c.in-Lower.is) in
     let long = half_length c.args.path.now c.extended-in-Lower-2.result false c.extended-in-Lower-2.ensures in
     let s = c.in_ok-take-in-Lower.ensures.stores xs f.inner (ends_at _ _ _ _ _ (omega (arith, long, f.deep)) f.ends) in
-    lower_stores c.args.path.now c.args.handed c.choice-hop.result.0 c.choice-hop.result.1 _ c.choice-hop.ensures.hop c.choice-hop.ensures.route g.P.Prefix.bits (g.P.R.Key.width - length c.args.path.now) xs p (step_of c.args.self.now.sets c.in-Some.step) left left _ c.args.self.now _ _ _ _ refl e c.in-Lower.other f c.extended-in-Lower.result c.extended-in-Lower-2.result c.extended-in-Lower.ensures c.extended-in-Lower-2.ensures c.in_ok-add_other-in-Lower.ensures.routes s)
+    lower_stores c.args.path.now c.args.inherited c.choice-hop.result.0 c.choice-hop.result.1 _ c.choice-hop.ensures.hop c.choice-hop.ensures.route g.P.Prefix.bits (g.P.R.Key.width - length c.args.path.now) xs p (step_of c.args.self.now.sets c.in-Some.step) left left _ c.args.self.now _ _ _ _ refl e c.in-Lower.other f c.extended-in-Lower.result c.extended-in-Lower-2.result c.extended-in-Lower.ensures c.extended-in-Lower-2.ensures c.in_ok-add_other-in-Lower.ensures.routes s)
     c.add_own-in-Lower.ensures.routes
 
 pub extended-requires-in-Upper : goal.extended-requires-in-Upper
@@ -150,7 +150,7 @@ returns-in_ok-add_other-in-Upper-clause-stores g t c = if_ok_map c.add_own-in-Up
     let f = upper_of (g.P.R.Key.width - length c.args.path.now) c.args.self.now c.pop.new.self c.in-Some.step c.in-Some.ensures xs p ends c.in-Upper.other (sym c.shape.ensures ∙ c.in-Upper.is) in
     let long = half_length c.args.path.now c.extended-in-Upper.result true c.extended-in-Upper.ensures in
     let s = c.in_ok-take-in-Upper.ensures.stores xs f.inner (ends_at _ _ _ _ _ (omega (arith, long, f.deep)) f.ends) in
-    upper_stores c.args.path.now c.args.handed c.choice-hop.result.0 c.choice-hop.result.1 _ c.choice-hop.ensures.hop c.choice-hop.ensures.route g.P.Prefix.bits (g.P.R.Key.width - length c.args.path.now) xs p (step_of c.args.self.now.sets c.in-Some.step) left left _ c.args.self.now _ _ _ _ refl e c.in-Upper.other f c.extended-in-Upper.result c.extended-in-Upper-2.result c.extended-in-Upper.ensures c.extended-in-Upper-2.ensures s c.in_ok-add_other-in-Upper.ensures.routes)
+    upper_stores c.args.path.now c.args.inherited c.choice-hop.result.0 c.choice-hop.result.1 _ c.choice-hop.ensures.hop c.choice-hop.ensures.route g.P.Prefix.bits (g.P.R.Key.width - length c.args.path.now) xs p (step_of c.args.self.now.sets c.in-Some.step) left left _ c.args.self.now _ _ _ _ refl e c.in-Upper.other f c.extended-in-Upper.result c.extended-in-Upper-2.result c.extended-in-Upper.ensures c.extended-in-Upper-2.ensures s c.in_ok-add_other-in-Upper.ensures.routes)
     c.add_own-in-Upper.ensures.routes
 
 pub onward-requires : goal.onward-requires
@@ -171,7 +171,7 @@ returns-in_ok-take-in-Skip-clause-stores g t c = if_ok_map c.add_own-in-Skip.res
     let f = skip_of (g.P.R.Key.width - length c.args.path.now) c.args.self.now c.pop.new.self c.in-Some.step c.in-Some.ensures xs p ends c.in-Skip.turns (sym c.shape.ensures ∙ c.in-Skip.is) in
     let long = ap length c.onward.ensures ∙ length-append c.args.path.now c.in-Skip.turns in
     let s = c.in_ok-take-in-Skip.ensures.stores xs f.inner (ends_at _ _ _ _ _ (omega (arith, long, f.deep)) f.ends) in
-    skip_stores c.args.path.now c.args.handed c.choice-hop.result.0 c.choice-hop.result.1 _ c.choice-hop.ensures.hop c.choice-hop.ensures.route g.P.Prefix.bits (g.P.R.Key.width - length c.args.path.now) xs p (step_of c.args.self.now.sets c.in-Some.step) left left _ c.args.self.now _ c.args.routes.now _ _ refl e c.in-Skip.turns f c.onward.result c.onward.ensures f.best s)
+    skip_stores c.args.path.now c.args.inherited c.choice-hop.result.0 c.choice-hop.result.1 _ c.choice-hop.ensures.hop c.choice-hop.ensures.route g.P.Prefix.bits (g.P.R.Key.width - length c.args.path.now) xs p (step_of c.args.self.now.sets c.in-Some.step) left left _ c.args.self.now _ c.args.routes.now _ _ refl e c.in-Skip.turns f c.onward.result c.onward.ensures f.best s)
     c.add_own-in-Skip.ensures.routes
 
 pub returns-in_ok-add_other-in-Pair-2-clause-networks : goal.returns-in_ok-add_other-in-Pair-2-clause-networks

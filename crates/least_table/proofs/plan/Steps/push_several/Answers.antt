@@ -7,4 +7,4 @@ use Rattle.least_table.proofs.plan.Steps.push_several.Goals as goal
 
 pub returns : goal.returns
 returns c = if_ok_map c.push-2.result
-    (λ _ added. grown c.args.self.now _ (packed.Several c.in_ok-at.at) (Fork c.args.hops.now) added c.in_ok-at.ensures.kept c.requires c.in_ok-at.ensures.here.0 (ap (λ ks. Fork ks) c.in_ok-at.ensures.here.1)) c.push-2.ensures
+    (λ _ added. grown c.args.self.now _ (packed.Set c.in_ok-at.at) (Fork c.args.hops.now) added c.in_ok-at.ensures.kept c.requires c.in_ok-at.ensures.here.0 (ap (λ ks. Fork ks) c.in_ok-at.ensures.here.1)) c.push-2.ensures

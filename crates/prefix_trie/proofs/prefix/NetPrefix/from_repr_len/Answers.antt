@@ -7,9 +7,9 @@ use Rattle.prefix_trie.proofs.prefix.NetPrefix.from_repr_len.Goals as goal
 
 pub returns-clause-bits : goal.returns-clause-bits
 returns-clause-bits g c =
-    ap (λ n. bit_string (block_of g.N.Number.family n)) c.new_assert.ensures
-    ∙ ap (λ r. bit_string (block_of g.N.Number.family (record { number = r; len = c.args.len }))) c.to_addr.ensures
-    ∙ ap (λ w. prefix_bits w (g.N.Key.number c.args.repr) c.args.len) (sym g.met.N.Number.sized)
+    ap (λ n. bit_string (block_of g.N.AddressInt.family n)) c.new_assert.ensures
+    ∙ ap (λ r. bit_string (block_of g.N.AddressInt.family (record { number = r; len = c.args.len }))) c.to_addr.ensures
+    ∙ ap (λ w. prefix_bits w (g.N.Key.number c.args.repr) c.args.len) (sym g.met.N.AddressInt.sized)
 
 pub returns-clause-masked : goal.returns-clause-masked
 returns-clause-masked g c = λ m.

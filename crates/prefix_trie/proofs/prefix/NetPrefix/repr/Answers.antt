@@ -8,6 +8,6 @@ use Rattle.prefix_trie.proofs.prefix.NetPrefix.repr.Goals as goal
 pub returns-clause-bits : goal.returns-clause-bits
 returns-clause-bits g c =
     let n = c.args.self.now in
-    ap (λ r. prefix_bits g.N.Key.width r (length (bit_string (block_of g.N.Number.family n)))) (c.of_addr.ensures ∙ c.addr.ensures.value)
+    ap (λ r. prefix_bits g.N.Key.width r (length (bit_string (block_of g.N.AddressInt.family n)))) (c.of_addr.ensures ∙ c.addr.ensures.value)
     ∙ ap (prefix_bits g.N.Key.width n.number) (length-digits n.len _)
-    ∙ ap (λ w. prefix_bits w n.number n.len) g.met.N.Number.sized
+    ∙ ap (λ w. prefix_bits w n.number n.len) g.met.N.AddressInt.sized

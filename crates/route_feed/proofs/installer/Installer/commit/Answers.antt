@@ -1,5 +1,5 @@
 use Rattle.std.proofs.Common.{rules, ◌≡◌, false}
-use Rattle.route_feed.proofs.Noting.{unseen_of}
+use Rattle.route_feed.proofs.TakesNote.{unseen_of}
 use Rattle.route_feed.proofs.installer.Installer.commit.Goals as goal
 
 pub returns-then-is_some : goal.returns-then-is_some

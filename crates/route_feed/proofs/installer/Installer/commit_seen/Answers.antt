@@ -2,7 +2,7 @@ use Rattle.std.proofs.Common.{All, Ok, Err, inr, refl, map, ap, ◌∙◌, subst
 use Rattle.std.proofs.lemmas.Result.{err_from_is_err_and}
 use Rattle.ipnet.specs.IpNets.{family, parts}
 use Rattle.ipnet_blocks.specs.Networks.{IsTruncated}
-use Rattle.route_lines.specs.declared.note.Note.TheVariants.{Reply}
+use Rattle.route_lines.specs.declared.fib_input.FibInput.TheVariants.{Reply}
 use Rattle.route_lines.specs.declared.reply.Closing.TheVariants.{Done}
 use Rattle.route_lines.specs.declared.reply.Reply.TheVariants.{Close}
 use Rattle.route_laws.specs.LeastTables.{routes_for}
@@ -13,7 +13,7 @@ use Rattle.route_laws.specs.Tables.{hop_at}
 use Rattle.route_table.specs.Operations.{network_of, operation_of}
 use Rattle.route_feed.specs.Devices.{Closes}
 use Rattle.route_feed.specs.InnerInstalling.{batch_bytes}
-use Rattle.route_feed.proofs.Noting.{after_update, nothing_wanted, update_of}
+use Rattle.route_feed.proofs.TakesNote.{after_update, nothing_wanted, update_of}
 use Rattle.route_feed.proofs.installer.Installer.commit_seen.Goals as goal
 
 pub returns-in_err-operations : goal.returns-in_err-operations

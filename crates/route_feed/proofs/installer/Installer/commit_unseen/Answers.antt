@@ -1,4 +1,4 @@
-use Rattle.route_feed.proofs.Noting.{unseen_tables}
+use Rattle.route_feed.proofs.TakesNote.{unseen_tables}
 use Rattle.route_feed.proofs.installer.Installer.commit_unseen.Goals as goal
 
 pub returns-clause-table : goal.returns-clause-table

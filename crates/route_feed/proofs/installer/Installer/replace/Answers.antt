@@ -2,7 +2,7 @@ use Rattle.std.proofs.Common.{◌∙◌, true}
 use Rattle.std.proofs.lemmas.Result.{err_from_is_err_and}
 use Rattle.route_laws.specs.LeastTables.{routes_for}
 use Rattle.route_laws.specs.Networks.{routes_of}
-use Rattle.route_feed.proofs.Noting.{replaces, replaces_torn}
+use Rattle.route_feed.proofs.TakesNote.{replaces, replaces_torn}
 use Rattle.route_feed.proofs.installer.Installer.replace.Goals as goal
 
 pub returns-in_err-give_batch : goal.returns-in_err-give_batch

@@ -1,10 +1,10 @@
 use Rattle.std.proofs.Common.{refl, subst, sym}
 use Rattle.route_choices.specs.declared.hop.Hop.TheVariants.{Drop, Number}
-use Rattle.route_lines.specs.declared.note.Note.TheVariants.{Reply}
+use Rattle.route_lines.specs.declared.fib_input.FibInput.TheVariants.{Reply}
 use Rattle.route_lines.specs.declared.reply.Reply.TheVariants.{Set, Unset}
 use Rattle.route_feed.specs.InnerInstalling.{TakesNote}
 use Rattle.route_feed.specs.InnerWaiting.{waiting_change}
-use Rattle.route_feed.proofs.Noting.{keep_of}
+use Rattle.route_feed.proofs.TakesNote.{keep_of}
 use Rattle.route_feed.proofs.installer.Installer.reply.Goals as goal
 
 pub returns-in-Set : goal.returns-in-Set

@@ -4,9 +4,9 @@ use Rattle.std.specs.Prelude.{is_some}
 use Rattle.route_laws.specs.LeastTables.{IsLeast, routes_for}
 use Rattle.route_laws.specs.Networks.{routes_of}
 use Rattle.route_laws.specs.Tables.{hop_at}
-use Rattle.route_lines.specs.declared.note.Note.TheVariants.{Sync}
+use Rattle.route_lines.specs.declared.fib_input.FibInput.TheVariants.{Sync}
 use Rattle.route_feed.specs.InnerInstalling.{Replaces}
-use Rattle.route_feed.proofs.Noting.{never_stays, nothing_wanted, stays_of, taken_sync}
+use Rattle.route_feed.proofs.TakesNote.{never_stays, nothing_wanted, stays_of, taken_sync}
 use Rattle.route_feed.proofs.installer.Installer.sync.Goals as goal
 use Rattle.route_feed.proofs.installer.Installer.sync.Goals.{else-is_none-via-then-is_none+else-has_as_many, else-is_none-via-else-is_none}
 

@@ -1,6 +1,6 @@
 use Rattle.std.proofs.Common.{subst, sym}
 use Rattle.route_feed.specs.InnerInstalling.{TakesNote}
-use Rattle.route_feed.proofs.Noting.{taken_have}
+use Rattle.route_feed.proofs.TakesNote.{taken_have}
 use Rattle.route_feed.proofs.installer.Installer.take_note.Goals as goal
 
 pub returns-in-Have : goal.returns-in-Have

@@ -1,7 +1,7 @@
 use Rattle.std.proofs.Common.{◌≡◌, ap, refl, ◌∙◌, Some, None}
 use Rattle.route_lines.specs.Lines.{as_line}
 use Rattle.route_feed.specs.InnerLines.{note_in}
-use Rattle.route_feed.proofs.Noting.{line_counts, line_none, line_some}
+use Rattle.route_feed.proofs.TakesNote.{line_counts, line_none, line_some}
 use Rattle.route_feed.proofs.ReadLines.{of_notes, read_is, read_none}
 use Rattle.route_feed.proofs.sinks.InstallerSink.take.Goals as goal
 

@@ -1,6 +1,6 @@
 use Rattle.route_lines.specs.Lines.{as_line}
 use Rattle.route_feed.specs.InnerLines.{command_in}
-use Rattle.route_feed.proofs.Leading.{answer_counts}
+use Rattle.route_feed.proofs.LeadThen.{answer_counts}
 use Rattle.route_feed.proofs.sinks.RouteTableSink.take.Goals as goal
 
 pub returns-clause-others : goal.returns-clause-others

@@ -1,7 +1,7 @@
 use Rattle.std.proofs.Common.{rules, ◌≡◌, ◌↔◌, true, subst, sym, Some}
 use Rattle.route_choices.specs.Choices.{default_preference}
 use Rattle.route_laws.specs.Networks.{routes_of}
-use Rattle.route_table.proofs.Looks.{held_by_get, same_items}
+use Rattle.route_table.proofs.BetweenSteps.{held_by_get, same_items}
 use Rattle.route_table.proofs.between.HopTable.holds.Goals as goal
 
 pub returns : goal.returns

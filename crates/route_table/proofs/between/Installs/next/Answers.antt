@@ -1,6 +1,6 @@
 use Rattle.std.proofs.Common.{true, false, sym, ◌∙◌}
 use Rattle.route_laws.specs.Networks.{routes_of}
-use Rattle.route_table.proofs.Looks.{front_comes, last_looked_at}
+use Rattle.route_table.proofs.BetweenSteps.{front_comes, last_looked_at}
 use Rattle.route_table.proofs.between.Installs.next.Goals as goal
 
 pub holds-requires : goal.holds-requires

@@ -4,7 +4,7 @@ use Rattle.route_laws.specs.LeastTables.{routes_for}
 use Rattle.route_laws.specs.Operations.{Remove, removes, surplus}
 use Rattle.route_laws.specs.Tables.{IsTable, route_of}
 use Rattle.route_table.specs.InnerBetween.{AreComing, routes_left}
-use Rattle.route_table.proofs.Looks.{next_removed, next_kept, rest_is_table}
+use Rattle.route_table.proofs.BetweenSteps.{next_removed, next_kept, rest_is_table}
 use Rattle.route_table.proofs.between.Removes.next.Goals as goal
 
 pub passes_to-requires : goal.passes_to-requires

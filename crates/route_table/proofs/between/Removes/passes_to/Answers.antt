@@ -4,7 +4,7 @@ use Rattle.ipnet_blocks.proofs.BlockLaws.{strict}
 use Rattle.ipnet.specs.IpNets.{IsNetBefore, block}
 use Rattle.route_laws.specs.LeastTables.{routes_for}
 use Rattle.route_laws.specs.Tables.{IsTable, is_stored}
-use Rattle.route_table.proofs.Looks.{is_truncated, not_there, passed_by, rest_comes}
+use Rattle.route_table.proofs.BetweenSteps.{is_truncated, not_there, passed_by, rest_comes}
 use Rattle.route_table.proofs.between.Removes.passes_to.Goals as goal
 
 pub loop-first-preserved : goal.loop-first-preserved

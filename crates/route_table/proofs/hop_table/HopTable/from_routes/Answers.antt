@@ -3,7 +3,7 @@ use Rattle.std.proofs.lemmas.List.{take_all}
 use Rattle.route_choices.specs.Choices.{default_preference}
 use Rattle.route_laws.specs.LeastTables.{routes_for}
 use Rattle.route_laws.specs.Tables.{route_of, with_route}
-use Rattle.route_table.proofs.Looks.{added_next}
+use Rattle.route_table.proofs.BetweenSteps.{added_next}
 use Rattle.route_table.proofs.hop_table.HopTable.from_routes.Goals as goal
 
 pub loop-net-preserved : goal.loop-net-preserved

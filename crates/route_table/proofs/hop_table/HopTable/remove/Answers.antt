@@ -4,7 +4,7 @@ use Rattle.ipnet_blocks.specs.Networks.{block_of}
 use Rattle.ipnet.specs.IpNets.{block}
 use Rattle.route_laws.specs.Networks.{IsStoredTable, routes_of, without_stored}
 use Rattle.route_laws.proofs.Networks.{routes_without}
-use Rattle.route_table.proofs.Sides.{is_stored_table, without_stored_side}
+use Rattle.route_table.proofs.FamilyTables.{is_stored_table, without_stored_side}
 use Rattle.route_table.proofs.hop_table.HopTable.remove.Goals as goal
 
 pub returns-in-V4-clause-routes : goal.returns-in-V4-clause-routes

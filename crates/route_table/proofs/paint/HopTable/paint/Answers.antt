@@ -17,7 +17,7 @@ returns-then-eq-clause-routes c =
     let t = routes_are_table c.args.self.now c.remove_inside.ensures.tables.0 in
     ap routes_of c.remove_inside.ensures.networks ∙ routes_outside c.args.self.now (block c.cleared-net.result) ∙ ap (without_inside (routes_of c.args.self.now)) c.cleared-net.ensures.block
     ∙ sym (painted_bare (routes_of c.args.self.now) (route_of c.args.net c.args.hop default_preference)
-    (same_test (routes_of c.args.self.now) (block c.cleared-net.result) (block c.args.net) c.args.hop c.handed.result c.number.result c.cleared-net.ensures.block (c.handed.ensures t) c.number.ensures.number ∙ sym c.if-eq.ensures))
+    (same_test (routes_of c.args.self.now) (block c.cleared-net.result) (block c.args.net) c.args.hop c.inherited.result c.number.result c.cleared-net.ensures.block (c.inherited.ensures t) c.number.ensures.number ∙ sym c.if-eq.ensures))
 
 pub returns-then-eq-clause-hops : goal.returns-then-eq-clause-hops
 returns-then-eq-clause-hops c x a =
@@ -30,4 +30,4 @@ returns-clause-routes c =
     IfOk-weaker c.overwrite.result _ _ (λ _ e. ap routes_of e ∙ routes_overwritten c.args.self.now (block c.cleared-net.result) (record { hop = c.args.hop; pref = default_preference })
     ∙ ap (λ d. overwritten (routes_of c.args.self.now) (record { block = d; hop = c.args.hop; pref = default_preference })) c.cleared-net.ensures.block
     ∙ sym (painted_over (routes_of c.args.self.now) (route_of c.args.net c.args.hop default_preference)
-    (same_test (routes_of c.args.self.now) (block c.cleared-net.result) (block c.args.net) c.args.hop c.handed.result c.number.result c.cleared-net.ensures.block (c.handed.ensures t) c.number.ensures.number ∙ sym c.if-eq.ensures))) c.overwrite.ensures.networks
+    (same_test (routes_of c.args.self.now) (block c.cleared-net.result) (block c.args.net) c.args.hop c.inherited.result c.number.result c.cleared-net.ensures.block (c.inherited.ensures t) c.number.ensures.number ∙ sym c.if-eq.ensures))) c.overwrite.ensures.networks

@@ -1,6 +1,6 @@
 use Rattle.std.proofs.Common.{None, refl}
 use Rattle.route_table.specs.declared.runs.Runs.{Runs}
-use Rattle.route_table.proofs.Turns.{finish_none, finish_run}
+use Rattle.route_table.proofs.RunSteps.{finish_none, finish_run}
 use Rattle.route_table.proofs.runs.Runs.finish.Goals as goal
 
 pub returns-in-Some-clause-step : goal.returns-in-Some-clause-step

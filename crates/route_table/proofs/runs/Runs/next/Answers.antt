@@ -1,5 +1,5 @@
 use Rattle.std.proofs.Common.{◌∙◌}
-use Rattle.route_table.proofs.Turns.{given_later}
+use Rattle.route_table.proofs.RunSteps.{given_later}
 use Rattle.route_table.proofs.runs.Runs.next.Goals as goal
 
 pub returns-in-Run-clause-run : goal.returns-in-Run-clause-run

@@ -7,7 +7,7 @@ use Rattle.route_laws.specs.Networks.{IsStoredTable, choices_at, routes_of, with
 use Rattle.route_table.specs.Refusals.{IsRefused}
 use Rattle.route_laws.specs.Tables.{match_of, match_number}
 use Rattle.route_table.proofs.Outcomes.{if_err, if_ok, on_ok}
-use Rattle.route_table.proofs.Sides.{is_stored_table, choices_side, match_side, with_choice_side}
+use Rattle.route_table.proofs.FamilyTables.{is_stored_table, choices_side, match_side, with_choice_side}
 use Rattle.route_table.proofs.table.RouteTable.add_choice.Goals as goal
 
 pub returns-in-V4-clause-before : goal.returns-in-V4-clause-before

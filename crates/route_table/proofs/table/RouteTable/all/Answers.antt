@@ -2,7 +2,7 @@ use Rattle.std.proofs.Common.{◌∙◌, sym}
 use Rattle.ipnet_addr.specs.Addresses.{Ipv4, Ipv6}
 use Rattle.ipnet_blocks.specs.Networks.{block_of}
 use Rattle.route_laws.specs.Networks.{choices_at}
-use Rattle.route_table.proofs.Sides.{choices_side}
+use Rattle.route_table.proofs.FamilyTables.{choices_side}
 use Rattle.route_table.proofs.table.RouteTable.all.Goals as goal
 
 pub returns-in-V4 : goal.returns-in-V4

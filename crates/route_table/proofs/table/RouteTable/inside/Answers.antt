@@ -4,7 +4,7 @@ use Rattle.ipnet_blocks.specs.Networks.{block_of}
 use Rattle.ipnet.specs.IpNets.{block}
 use Rattle.route_laws.specs.Tables.{routes_inside}
 use Rattle.route_laws.specs.Networks.{routes_of}
-use Rattle.route_table.proofs.Sides.{seen_table, inside_side}
+use Rattle.route_table.proofs.FamilyTables.{seen_table, inside_side}
 use Rattle.route_table.proofs.table.RouteTable.inside.Goals as goal
 
 pub returns-in-V4 : goal.returns-in-V4

@@ -2,7 +2,7 @@ use Rattle.std.proofs.Common.{◌∙◌, sym, ap}
 use Rattle.ipnet_addr.specs.Addresses.{Ipv4, Ipv6}
 use Rattle.trie_core.specs.Count.{nodes}
 use Rattle.route_table.specs.Tries.{map_of}
-use Rattle.route_table.proofs.Sides.{map_side}
+use Rattle.route_table.proofs.FamilyTables.{map_side}
 use Rattle.route_table.proofs.table.RouteTable.node_counts.Goals as goal
 
 pub returns : goal.returns

@@ -6,7 +6,7 @@ use Rattle.route_choices.specs.Choices.{holds_hop}
 use Rattle.route_laws.specs.Networks.{IsStoredTable, choices_at, routes_of, without_choice}
 use Rattle.route_laws.specs.Tables.{match_number, match_of}
 use Rattle.route_table.proofs.Outcomes.{if_some}
-use Rattle.route_table.proofs.Sides.{is_stored_table, choices_side, match_side, without_choice_side}
+use Rattle.route_table.proofs.FamilyTables.{is_stored_table, choices_side, match_side, without_choice_side}
 use Rattle.route_table.proofs.table.RouteTable.remove_choice.Goals as goal
 
 pub returns-in-V4-clause-held : goal.returns-in-V4-clause-held

@@ -5,7 +5,7 @@ use Rattle.ipnet_blocks.specs.Networks.{block_of}
 use Rattle.ipnet.specs.IpNets.{block, family}
 use Rattle.trie_core.specs.Count.{visit_count}
 use Rattle.route_table.specs.Tries.{map_of}
-use Rattle.route_table.proofs.Sides.{map_side}
+use Rattle.route_table.proofs.FamilyTables.{map_side}
 use Rattle.route_table.proofs.table.RouteTable.visits.Goals as goal
 
 pub returns-in-V4-clause-visits : goal.returns-in-V4-clause-visits

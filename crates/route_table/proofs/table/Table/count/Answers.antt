@@ -2,7 +2,7 @@ use Rattle.std.proofs.Common.{◌∙◌, sym, ap}
 use Rattle.ipnet_addr.specs.Addresses.{Ipv4, Ipv6}
 use Rattle.route_laws.specs.Onwards.{count_of}
 use Rattle.route_laws.specs.Networks.{routes_of}
-use Rattle.route_table.proofs.Sides.{count_side, seen_table}
+use Rattle.route_table.proofs.FamilyTables.{count_side, seen_table}
 use Rattle.route_table.proofs.table.Table.count.Goals as goal
 
 pub returns : goal.returns

@@ -5,7 +5,7 @@ use Rattle.ipnet.specs.IpNets.{block}
 use Rattle.std.specs.Option.{option_map}
 use Rattle.route_laws.specs.Tables.{match_of, item_of}
 use Rattle.route_laws.specs.Networks.{routes_of}
-use Rattle.route_table.proofs.Sides.{seen_table, match_side}
+use Rattle.route_table.proofs.FamilyTables.{seen_table, match_side}
 use Rattle.route_table.proofs.table.Table.longest.Goals as goal
 
 pub returns-in-V4 : goal.returns-in-V4

@@ -3,7 +3,7 @@ use Rattle.ipnet_addr.specs.Addresses.{Ipv4, Ipv6}
 use Rattle.ipnet_blocks.specs.Networks.{block_of}
 use Rattle.ipnet.specs.IpNets.{block}
 use Rattle.route_laws.specs.Networks.{IsStoredTable, networks_outside}
-use Rattle.route_table.proofs.Sides.{is_stored_table, outside_side}
+use Rattle.route_table.proofs.FamilyTables.{is_stored_table, outside_side}
 use Rattle.route_table.proofs.table.Table.remove_inside.Goals as goal
 
 pub returns-in-V4-clause-networks : goal.returns-in-V4-clause-networks

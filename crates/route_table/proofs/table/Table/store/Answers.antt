@@ -7,7 +7,7 @@ use Rattle.ipnet.specs.declared.ip_net.IpNet.{IpNet}
 use Rattle.route_laws.specs.Networks.{IsLeaf, IsStoredTable, choices_at, with_choices}
 use Rattle.route_table.proofs.Leaves.{leaf_side}
 use Rattle.route_table.proofs.Outcomes.{if_ok, on_err, on_ok}
-use Rattle.route_table.proofs.Sides.{is_stored_table, choices_side, with_choices_side}
+use Rattle.route_table.proofs.FamilyTables.{is_stored_table, choices_side, with_choices_side}
 use Rattle.route_table.proofs.table.Table.store.Goals as goal
 
 pub returns-in-V4-clause-networks : goal.returns-in-V4-clause-networks

@@ -9,7 +9,7 @@ use Rattle.route_laws.specs.Tables.{route_of}
 use Rattle.route_table.specs.InnerLeast.{entries_of}
 use Rattle.route_table.proofs.FewestUpdates.{side_bits}
 use Rattle.route_table.proofs.OneEdits.{edits_v4, edits_v6, no_edits}
-use Rattle.route_table.proofs.Sides.{both_families}
+use Rattle.route_table.proofs.FamilyTables.{both_families}
 use Rattle.route_table.proofs.updates.HopTable.edits_of_change.Goals as goal
 
 pub returns-in_ok-v4-in-V4 : goal.returns-in_ok-v4-in-V4

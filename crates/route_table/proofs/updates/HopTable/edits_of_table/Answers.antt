@@ -1,6 +1,6 @@
 use Rattle.std.proofs.Common.{refl}
 use Rattle.route_laws.specs.Networks.{routes_of}
-use Rattle.route_table.proofs.Sides.{both_families}
+use Rattle.route_table.proofs.FamilyTables.{both_families}
 use Rattle.route_table.proofs.updates.HopTable.edits_of_table.Goals as goal
 
 pub returns : goal.returns

@@ -6,7 +6,7 @@ use Rattle.route_laws.specs.Networks.{routes_of}
 use Rattle.route_laws.specs.Nearest.{AreUpdates}
 use Rattle.route_table.specs.InnerLeast.{entries_of}
 use Rattle.route_table.proofs.FewestUpdates.{are_updates}
-use Rattle.route_table.proofs.Sides.{seen_table}
+use Rattle.route_table.proofs.FamilyTables.{seen_table}
 use Rattle.route_table.proofs.updates.HopTable.updates.Goals as goal
 
 pub returns-in_err-v4-clause-table : goal.returns-in_err-v4-clause-table

@@ -1,4 +1,4 @@
-use Rattle.route_table.proofs.Sides.{both_families}
+use Rattle.route_table.proofs.FamilyTables.{both_families}
 use Rattle.route_table.proofs.walks.HopTable.sides.Goals as goal
 
 pub returns : goal.returns

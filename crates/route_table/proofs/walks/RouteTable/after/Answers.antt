@@ -3,7 +3,7 @@ use Rattle.ipnet_addr.specs.Addresses.{Ipv4, Ipv6}
 use Rattle.ipnet_blocks.specs.Networks.{block_of}
 use Rattle.route_laws.specs.Onwards.{routes_after}
 use Rattle.route_laws.specs.Networks.{routes_of}
-use Rattle.route_table.proofs.Sides.{seen_table, onwards_side}
+use Rattle.route_table.proofs.FamilyTables.{seen_table, onwards_side}
 use Rattle.route_table.proofs.walks.RouteTable.after.Goals as goal
 
 pub returns-in-V4 : goal.returns-in-V4

@@ -3,7 +3,7 @@ use Rattle.ipnet_addr.specs.Addresses.{Ipv4, Ipv6}
 use Rattle.ipnet_blocks.specs.Networks.{block_of}
 use Rattle.route_laws.specs.Tables.{covering}
 use Rattle.route_laws.specs.Networks.{routes_of}
-use Rattle.route_table.proofs.Sides.{covering_side}
+use Rattle.route_table.proofs.FamilyTables.{covering_side}
 use Rattle.route_table.proofs.walks.RouteTable.cover.Goals as goal
 
 pub returns-in-V4 : goal.returns-in-V4

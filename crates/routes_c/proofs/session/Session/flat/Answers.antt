@@ -1,5 +1,5 @@
 use Rattle.std.proofs.Common.{refl, subst}
-use Rattle.route_feed.proofs.Told.{flat_is}
+use Rattle.route_feed.proofs.AnsweredChanges.{flat_is}
 use Rattle.route_laws.specs.Networks.{routes_of}
 use Rattle.routes_c.specs.Lists.{MakesPieces}
 use Rattle.routes_c.proofs.session.Session.flat.Goals as goal

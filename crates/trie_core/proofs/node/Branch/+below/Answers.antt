@@ -8,7 +8,7 @@ use Rattle.shape.specs.Shapes.{shape_values, shape_children}
 use Rattle.trie_core.specs.Count.{node_visits}
 use Rattle.trie_core.specs.Nodes.{Seen}
 use Rattle.trie_core.specs.InnerNodes.{HasSlots}
-use Rattle.trie_core.specs.InnerExchanges.{IsExchanged, IsStored, bare}
+use Rattle.trie_core.specs.InnerInsertedBelow.{IsInsertedBelow, IsStored, bare}
 use Rattle.trie_core.specs.InnerChains.{chain, skipped}
 use Rattle.trie_core.specs.InnerPlaces.{child_of}
 use Rattle.trie_core.specs.InnerSearch.{HasNoChild, IsLeaf}
@@ -18,7 +18,7 @@ use Rattle.trie_core.proofs.Searches.{no_child_get, child_visits}
 use Rattle.trie_core.proofs.Taken.{missing}
 use Rattle.trie_core.proofs.Visits.{visits_some_node}
 use Rattle.trie_core.proofs.Changes.{way, child_slots}
-use Rattle.trie_core.proofs.Exchanges.{not_short, exchanged_new, leaf_new}
+use Rattle.trie_core.proofs.InsertedBelow.{not_short, exchanged_new, leaf_new}
 use Rattle.trie_core.proofs.SkippedLeaves.{skipped_leaf}
 use Rattle.trie_core.proofs.Shapes.{values_as}
 use Rattle.trie_core.proofs.Skipped.{made_new, no_slots, nothing, lone_slots, lone_exchanged}
@@ -63,15 +63,15 @@ store_below-returns-clause-stored g t c h =
     let l : 5 ≤ length q = omega (arith, c.of_parts-path.ensures.len, c.requires.long) in
     let k = c.skippable-levels.result in
     let less = o.room - (c.from-more.result + 1) in
-    let x = subst (λ grow. IsExchanged c.past.result o.held grow less bare made out b) c.if-not-insertion.false c.in-Some.ensures.stored in
+    let x = subst (λ grow. IsInsertedBelow c.past.result o.held grow less bare made out b) c.if-not-insertion.false c.in-Some.ensures.stored in
     let d = chain k (skipped k c.head.result) b in
     let z = made_new k c.head.result c.rest-rest.result c.past.result bare b c.head.ensures.starts c.past.ensures c.requires.held refl refl refl x in
     let m : made + k + 1 ≡ made + (c.from-more.result + 1) = omega (arith, c.from-more.ensures) in
     let v = c.put_child.ensures.values ∙ c.reserve_child.ensures.values in
     let after = λ (vs : List g.row.T.Denot). viewed c.self.inside.value_bits vs c.put_child.new.taken (shape_children c.put_child.new.body) in
-    subst (λ p. IsExchanged p o.held o.may_grow o.room c.args.self.now (made + (c.from-more.result + 1)) out (after (shape_values c.put_child.new.body))) c.of_parts-path.ensures.string
-    (subst (λ n. IsExchanged q o.held o.may_grow o.room c.args.self.now n out (after (shape_values c.put_child.new.body))) m
-    (subst (λ vs. IsExchanged q o.held o.may_grow o.room c.args.self.now (made + k + 1) out (after vs)) (sym v)
+    subst (λ p. IsInsertedBelow p o.held o.may_grow o.room c.args.self.now (made + (c.from-more.result + 1)) out (after (shape_values c.put_child.new.body))) c.of_parts-path.ensures.string
+    (subst (λ n. IsInsertedBelow q o.held o.may_grow o.room c.args.self.now n out (after (shape_values c.put_child.new.body))) m
+    (subst (λ vs. IsInsertedBelow q o.held o.may_grow o.room c.args.self.now (made + k + 1) out (after vs)) (sym v)
     (exchanged_new (shape_children c.put_child.new.body) q bare d (seen c.self.invariant c.self.view_is) l c.five-number.ensures.value c.in-None.ensures
     c.reserve_child.ensures.children c.put_child.ensures.items c.put_child.ensures.counted (c.put_child.ensures.below 32 c.five-number.ensures.below c.self.invariant.children_below)
     refl refl refl c.rest-rest.ensures c.requires.held c.if-not-insertion.false (omega (arith, x.within, c.from-more.ensures, c.if-insertion-more.false)) z)))
@@ -113,5 +113,5 @@ filled-returns-clause-stored g t c =
     let q = c.args.path in
     let v = c.in-Some.value in
     let x = lone_exchanged {room = o.room} q v (is_short q c.is_short.ensures c.if-not-is_short.false) c.place.ensures.value c.place.ensures.below (sym c.take.ensures.value ∙ c.in-Some.is) c.requires.grows in
-    subst (λ w. IsExchanged q o.held o.may_grow o.room bare 0 c.take.new.self (viewed w (v ∷ []) 0 [])) (sym c.bit.ensures)
-    (subst (λ h. IsExchanged q o.held o.may_grow o.room bare 0 h (viewed (2 ^ c.place.result) (v ∷ []) 0 [])) (sym c.take.ensures.after) x)
+    subst (λ w. IsInsertedBelow q o.held o.may_grow o.room bare 0 c.take.new.self (viewed w (v ∷ []) 0 [])) (sym c.bit.ensures)
+    (subst (λ h. IsInsertedBelow q o.held o.may_grow o.room bare 0 h (viewed (2 ^ c.place.result) (v ∷ []) 0 [])) (sym c.take.ensures.after) x)

@@ -1,7 +1,7 @@
 use Rattle.std.proofs.Common.{◌≡◌, ℕ, false, arith}
 use Rattle.std.specs.Prelude.{IsTrue, nat_eq}
 use Rattle.std.proofs.lemmas.Bool.Decides.{nat_tests}
-use Rattle.trie_core.proofs.Withdrawn.{branch_bare, branch_full}
+use Rattle.trie_core.proofs.RemovedBelow.{branch_bare, branch_full}
 use Rattle.trie_core.proofs.node.Branch.is_bare.Goals as goal
 
 from_test : (a b : ℕ) → IsTrue (nat_eq a b) → a ≡ b

@@ -7,7 +7,7 @@ use Rattle.shape.specs.Shapes.{shape_values, shape_children}
 use Rattle.trie_core.specs.InnerPlaces.{at_places}
 use Rattle.trie_core.proofs.Seen.{seen, viewed, value_at}
 use Rattle.trie_core.proofs.Changes.{value_slots, value_put_map, value_count}
-use Rattle.trie_core.specs.InnerExchanges.{IsExchanged}
+use Rattle.trie_core.specs.InnerInsertedBelow.{IsInsertedBelow}
 use Rattle.trie_core.proofs.Shapes.{children_as}
 use Rattle.trie_core.proofs.Ways.{short_off}
 use Rattle.trie_core.proofs.node.Branch.store_here.Goals as goal
@@ -27,8 +27,8 @@ returns-in-Ok-clause-stored g c h =
     let s = seen c.self.invariant c.self.view_is in
     let v = value_slots s c.put_value.ensures.counted (c.put_value.ensures.below 31 c.place.ensures.below c.self.invariant.values_below) in
     let stood = ap (λ n. find nat_cmp n (at_places 32 0 c.self.inside.value_bits (shape_values c.self.inside.body))) c.place.ensures.value ∙ value_at q s l in
-    subst (λ p. IsExchanged p t.held t.may_grow t.room c.args.self.now 0 c.in-Ok.old (viewed c.put_value.new.taken (shape_values c.put_value.new.body) c.self.inside.child_bits (shape_children c.put_value.new.body))) e
-    (subst (λ cs. IsExchanged q t.held t.may_grow t.room c.args.self.now 0 c.in-Ok.old (viewed c.put_value.new.taken (shape_values c.put_value.new.body) c.self.inside.child_bits cs)) (sym c.put_value.ensures.children) (record {
+    subst (λ p. IsInsertedBelow p t.held t.may_grow t.room c.args.self.now 0 c.in-Ok.old (viewed c.put_value.new.taken (shape_values c.put_value.new.body) c.self.inside.child_bits (shape_children c.put_value.new.body))) e
+    (subst (λ cs. IsInsertedBelow q t.held t.may_grow t.room c.args.self.now 0 c.in-Ok.old (viewed c.put_value.new.taken (shape_values c.put_value.new.body) c.self.inside.child_bits cs)) (sym c.put_value.ensures.children) (record {
       old = c.in-Ok.ensures.old ∙ stood;
       map = λ u i.
           let d : Some c.in-Some.value ≡ Some u = sym c.in-Some.is ∙ c.take.ensures.value ∙ i in

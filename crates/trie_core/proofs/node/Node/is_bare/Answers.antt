@@ -1,10 +1,10 @@
 use Rattle.std.proofs.Common.{◌≡◌, sym, ap, subst, ◌∙◌, arith}
 use Rattle.std.specs.Prelude.{nat_eq}
 use Rattle.std.proofs.lemmas.Bool.{eqb-true}
-use Rattle.trie_core.specs.InnerWithdrawals.{IsBare, IsFull}
+use Rattle.trie_core.specs.InnerRemovedBelow.{IsBare, IsFull}
 use Rattle.trie_core.specs.InnerCount.{all_nodes}
 use Rattle.trie_core.specs.InnerChains.{chain, skipped}
-use Rattle.trie_core.proofs.Withdrawn.{bare_test, skipped_full}
+use Rattle.trie_core.proofs.RemovedBelow.{bare_test, skipped_full}
 use Rattle.trie_core.proofs.node.Node.is_bare.Goals as goal
 
 pub returns-then-self-eq0-clause-bare : goal.returns-then-self-eq0-clause-bare

@@ -1,9 +1,0 @@
-use Rattle.std.proofs.Common.{sym}
-use Rattle.ipnet.proofs.Ipv4Networks.{v4_read, v4_not_read}
-use Rattle.ipnet.proofs.ipv4.U32Written.parse_ascii.Goals as goal
-
-pub returns-in-Some : goal.returns-in-Some
-returns-in-Some c = rw c.new_assert.ensures (v4_read _ c.in-Some.addr c.in-Some.len (sym c.in-Some.ensures.value))
-
-pub returns-in-None : goal.returns-in-None
-returns-in-None c = v4_not_read _ (sym c.in-None.ensures.value)
