@@ -3,5 +3,5 @@ use Rattle.std.proofs.Common.{ℕ, ◌+◌, ◌*◌, ◌<◌, ◌≤◌, arith}
 use prog.Memory.{up}
 
 -- room for at most eight routes is less than an address can tell
-pub room_fits : (n : ℕ) → n ≤ 8 → up 4 (0 + n * 8) < 9223372036854775808
+pub room_fits : (n : ℕ) → n ≤ 8 → up 1 (0 + n * 7) < 9223372036854775808
 room_fits n h = omega (arith, h)

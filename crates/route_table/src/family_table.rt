@@ -132,7 +132,7 @@ impl<P: FamilyNet, const CAPACITY: usize> FamilyTable<P, CAPACITY> {
 
 impl<P: FamilyNet> FamilyTable<P, 8> {
     /// The number of the best hop at the longest match, and whether the network itself is stored.
-    fn match_before(&self, net: P) -> (Option<u32>, bool)
+    fn hop_at_match(&self, net: P) -> (Option<u32>, bool)
         requires { IsBlock (block_of P.family (P.parts net)) }
         ensures number { result.0 ≡ match_number (match_of (routes_of self.now) (block_of P.family (P.parts net))) }
         ensures stored { result.1 ≡ not (has_none (choices_at self.now (block_of P.family (P.parts net)))) }
@@ -170,7 +170,7 @@ impl<P: FamilyNet> FamilyTable<P, 8> {
         ensures refused { IfErr result (IsRefused (choices_at self.old (block_of P.family (P.parts net))) hop) }
         ensures unchanged { OnErr result (self.new ≡ self.old) }
     {
-        let (before, is_stored) = self.match_before(net);
+        let (before, is_stored) = self.hop_at_match(net);
         if is_stored {
             let after = self.add_stored(net, hop, pref)?;
             return Ok((before, after));
@@ -210,7 +210,7 @@ impl<P: FamilyNet> FamilyTable<P, 8> {
         ensures networks { self.new ≡ without_choice self.old (block_of P.family (P.parts net)) hop }
         ensures side { IsFamilyTable P.family self.new }
     {
-        let (before, is_stored) = self.match_before(net);
+        let (before, is_stored) = self.hop_at_match(net);
         if !is_stored {
             return None;
         }
@@ -218,7 +218,7 @@ impl<P: FamilyNet> FamilyTable<P, 8> {
         let held = choices.remove(hop);
         if choices.is_empty() {
             self.networks.remove(&net);
-            let (after, _) = self.match_before(net);
+            let (after, _) = self.hop_at_match(net);
             return change(held, before, after);
         }
         let (best, _) = choices.best();

@@ -33,16 +33,16 @@ empty (c ∷ cs) e = absurd (cc)
 pub match_mut-choices-requires-clause-stored : goal.match_mut-choices-requires-clause-stored
 match_mut-choices-requires-clause-stored g c =
     let key : take c.prefix_len.result (g.P.Prefix.bits c.args.net) ≡ bit_string (block_of g.P.FamilyNet.family (g.P.FamilyNet.parts c.args.net)) = take_all c.prefix_len.result (g.P.Prefix.bits c.args.net) (let e = c.prefix_len.ensures.value in omega arith) ∙ (g.met.P.FamilyNet.bits_are c.args.net) in
-    subst (λ s. IsSome (get c.self.inside.networks.entries s)) (sym key) (is_some_at (block_of g.P.FamilyNet.family (g.P.FamilyNet.parts c.args.net)) c.requires _ c.self.invariant.0 (λ z. some_there _ _ c.match_before-before.ensures.stored c.if-not-is_stored.false (sym (ap (λ T. choices_at T (block_of g.P.FamilyNet.family (g.P.FamilyNet.parts c.args.net))) c.self.view_is) ∙ z)))
+    subst (λ s. IsSome (get c.self.inside.networks.entries s)) (sym key) (is_some_at (block_of g.P.FamilyNet.family (g.P.FamilyNet.parts c.args.net)) c.requires _ c.self.invariant.0 (λ z. some_there _ _ c.hop_at_match-before.ensures.stored c.if-not-is_stored.false (sym (ap (λ T. choices_at T (block_of g.P.FamilyNet.family (g.P.FamilyNet.parts c.args.net))) c.self.view_is) ∙ z)))
 
 -- where the network is not stored
 pub returns-then-not-is_stored-clause-side : goal.returns-then-not-is_stored-clause-side
-returns-then-not-is_stored-clause-side g c = c.match_before-before.ensures.side
+returns-then-not-is_stored-clause-side g c = c.hop_at_match-before.ensures.side
 
 pub returns-then-not-is_stored-clause-networks : goal.returns-then-not-is_stored-clause-networks
 returns-then-not-is_stored-clause-networks g c =
-    let none = none_there _ _ c.match_before-before.ensures.stored c.if-not-is_stored.true in
-    sym (del_none c.args.self.now (block_of g.P.FamilyNet.family (g.P.FamilyNet.parts c.args.net)) c.args.hop c.match_before-before.ensures.side.table c.requires (λ d i. absurd (subst (λ (cs : List Choice). In d cs) none i)))
+    let none = none_there _ _ c.hop_at_match-before.ensures.stored c.if-not-is_stored.true in
+    sym (del_none c.args.self.now (block_of g.P.FamilyNet.family (g.P.FamilyNet.parts c.args.net)) c.args.hop c.hop_at_match-before.ensures.side.table c.requires (λ d i. absurd (subst (λ (cs : List Choice). In d cs) none i)))
 
 -- where a choice was left
 pub invariant_of-self-2 : goal.invariant_of-self-2
@@ -100,4 +100,4 @@ returns-then-is_empty-clause-networks g c =
     ∙ ap (λ T. without_choice T (block_of g.P.FamilyNet.family (g.P.FamilyNet.parts c.args.net)) c.args.hop) c.self.view_is
 
 pub returns-then-is_empty-clause-side : goal.returns-then-is_empty-clause-side
-returns-then-is_empty-clause-side g c = c.match_before-after.ensures.side
+returns-then-is_empty-clause-side g c = c.hop_at_match-after.ensures.side

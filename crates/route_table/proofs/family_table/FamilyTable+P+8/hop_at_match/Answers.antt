@@ -8,7 +8,7 @@ use Rattle.route_laws.specs.Tables.{match_number, match_of}
 use Rattle.trie_core.specs.Search.{IsLongest, NoBeginning}
 use Rattle.route_table.proofs.Found.{nothing_found, found_number, found_itself}
 use Rattle.route_table.proofs.FamilyMap.{is_side}
-use Rattle.route_table.proofs.family_table.FamilyTable+P+8.match_before.Goals as goal
+use Rattle.route_table.proofs.family_table.FamilyTable+P+8.hop_at_match.Goals as goal
 
 pub longest_match-requires : goal.longest_match-requires
 longest_match-requires g c = g.met.P.FamilyNet.always_fits c.args.net
