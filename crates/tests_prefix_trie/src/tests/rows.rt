@@ -41,10 +41,15 @@ pub(crate) fn set_with(
 ) -> PrefixSet<(u32, u8)> {
     let mut set = PrefixSet::new(alloc).expect(rt, "a set");
     for member in members.iter() {
-        assert!(rt; member.1 <= 32);
-        is_equal(rt, set.insert(*member), Ok(true));
+        insert_new(rt, &mut set, *member);
     }
     set
+}
+
+/// Inserts a member that is new.
+fn insert_new(rt: &impl Abort, set: &mut PrefixSet<(u32, u8)>, member: (u32, u8)) {
+    assert!(rt; member.1 <= 32);
+    is_equal(rt, set.insert(member), Ok(true));
 }
 
 /// 10.9.0.0/16, 10.1.0.0/16 and 10.7.7.7/8.
@@ -62,9 +67,14 @@ fn counts(rt: &impl Abort, set: &PrefixSet<(u32, u8)>, members: usize, nodes: us
 /// Checks that the map has these entries.
 fn has(rt: &impl Abort, map: &PrefixMap<(u32, u8), u32>, entries: &[((u32, u8), u32)]) {
     for (key, value) in entries.iter() {
-        assert!(rt; key.1 <= 32);
-        is_equal(rt, map.get(key).copied(), Some(*value));
+        has_one(rt, map, key, *value);
     }
+}
+
+/// Checks that the map has this entry.
+fn has_one(rt: &impl Abort, map: &PrefixMap<(u32, u8), u32>, key: &(u32, u8), value: u32) {
+    assert!(rt; key.1 <= 32);
+    is_equal(rt, map.get(key).copied(), Some(value));
 }
 
 #[test]
