@@ -66,7 +66,7 @@ fn many_blocks_in_one_network(rt: HostRuntime) {
     let table = each_third(&rt, rt.alloc());
     each_has(
         &rt,
-        &HopIndex::of_table(rt.alloc(), &table).expect(&rt, "an index"),
+        &HopIndex::from_table(rt.alloc(), &table).expect(&rt, "an index"),
     );
 }
 
@@ -120,7 +120,7 @@ fn ipv4_hosts_at_powers_of_two(rt: HostRuntime) {
     let table = powers4(&rt, rt.alloc());
     hosts4_have(
         &rt,
-        &HopIndex::of_table(rt.alloc(), &table).expect(&rt, "an index"),
+        &HopIndex::from_table(rt.alloc(), &table).expect(&rt, "an index"),
     );
 }
 
@@ -137,6 +137,6 @@ fn ipv6_hosts_at_powers_of_two(rt: HostRuntime) {
     let table = powers6(&rt, rt.alloc());
     hosts6_have(
         &rt,
-        &HopIndex::of_table(rt.alloc(), &table).expect(&rt, "an index"),
+        &HopIndex::from_table(rt.alloc(), &table).expect(&rt, "an index"),
     );
 }

@@ -144,7 +144,7 @@ fn batches_are(rt: &impl Abort, index: &HopIndex) {
 
 /// An index of the table.
 fn index_of(rt: &impl Abort, alloc: Global, table: &RouteTable) -> HopIndex {
-    HopIndex::of_table(alloc, table).expect(rt, "an index")
+    HopIndex::from_table(alloc, table).expect(rt, "an index")
 }
 
 /// Checks these hops by the index.
@@ -197,7 +197,7 @@ fn all_are(rt: &impl Abort, index: &HopIndex) {
 
 /// Checks an index of the hop table.
 fn index_of_best_is(rt: &impl Abort, alloc: Global, best: &HopTable) {
-    let index = HopIndex::of_hops(alloc, &best).expect(rt, "an index");
+    let index = HopIndex::from_hop_table(alloc, &best).expect(rt, "an index");
     hops_are(rt, &index);
 }
 
