@@ -119,47 +119,67 @@ fn is_refused_or_stored(
     step_is(rt, (row, 1), map.node_count(), nodes);
 }
 
-/// Checks that the call stores 10.0.0.0/8, given with host bits, into an empty map.
-fn is_stored(rt: &impl Abort, alloc: Global, row: &str, call: &Storing, value: u32) {
-    let mut map = map_of(rt, alloc, &[]);
-    let stored = stored_by(rt, &mut map, "10.1.2.3/8", call, value);
+/// Checks that the call stores 10.0.0.0/8, given with host bits, into the empty map.
+fn is_stored(
+    rt: &impl Abort,
+    map: &mut PrefixMap<Ipv4Net, u32>,
+    row: &str,
+    call: &Storing,
+    value: u32,
+) {
+    let stored = stored_by(rt, map, "10.1.2.3/8", call, value);
     step_is(rt, (row, 0), stored, Some(value));
-    is_refused_or_stored(rt, row, &map, ("10.0.0.0/8", stored, 2));
+    is_refused_or_stored(rt, row, map, ("10.0.0.0/8", stored, 2));
 }
 
 #[test]
 fn stored_into_an_empty_map(rt: HostRuntime) {
     for (row, call, value) in &STORING {
-        is_stored(&rt, rt.alloc(), row, call, *value);
+        is_stored(&rt, &mut map_of(&rt, rt.alloc(), &[]), row, call, *value);
     }
 }
 
 /// Stores 1.2.3.0/32, which needs six more nodes. Each request for memory may be refused; then the map is unchanged and the value is
 /// returned.
-fn may_be_refused(rt: &impl Abort, alloc: Global, row: &str, call: &Storing, value: u32) {
-    let mut map = map_of(rt, alloc, &[]);
-    let stored = stored_by(rt, &mut map, "1.2.3.0/32", call, value);
-    is_refused_or_stored(rt, row, &map, ("1.2.3.0/32", stored, 7));
+fn may_be_refused(
+    rt: &impl Abort,
+    map: &mut PrefixMap<Ipv4Net, u32>,
+    row: &str,
+    call: &Storing,
+    value: u32,
+) {
+    let stored = stored_by(rt, map, "1.2.3.0/32", call, value);
+    is_refused_or_stored(rt, row, map, ("1.2.3.0/32", stored, 7));
 }
 
 #[test]
 fn each_store_may_be_refused(rt: HostRuntime) {
     for (row, call, value) in &STORING {
-        may_be_refused(&rt, rt.alloc(), row, call, *value);
+        may_be_refused(&rt, &mut map_of(&rt, rt.alloc(), &[]), row, call, *value);
     }
+}
+
+/// The value 5 if the call stored it, or none if memory was refused and the value was returned.
+fn five_if_stored(rt: &impl Abort, outcome: Result<Option<u32>, (Refused, u32)>) -> Option<u32> {
+    match outcome {
+        Ok(_) => Some(5),
+        Err(refused) => {
+            is_equal(rt, refused, (Refused::Memory, 5));
+            None
+        }
+    }
+}
+
+/// The same of `insert`.
+fn insert_may_refuse(rt: &impl Abort, map: &mut PrefixMap<Ipv4Net, u32>) {
+    let outcome = map.entry(net(rt, "1.2.3.0/32")).insert(5);
+    let stored = five_if_stored(rt, outcome);
+    is_refused_or_stored(rt, "insert", map, ("1.2.3.0/32", stored, 7));
 }
 
 #[test]
 fn insert_may_be_refused(rt: HostRuntime) {
-    let mut map = map_of(&rt, rt.alloc(), &[]);
-    let stored = match map.entry(net(&rt, "1.2.3.0/32")).insert(5) {
-        Ok(_) => Some(5),
-        Err(refused) => {
-            is_equal(&rt, refused, (Refused::Memory, 5));
-            None
-        }
-    };
-    is_refused_or_stored(&rt, "insert", &map, ("1.2.3.0/32", stored, 7));
+    insert_may_refuse(&rt, &mut map_of(&rt, rt.alloc(), &[]));
 }
 
 /// Calls of entries. The network is 10.0.0.0/8 unless another one is named.
@@ -193,20 +213,29 @@ enum Call {
     Matched,
 }
 
-/// The key of a vacant entry, or of an occupied one.
-fn keys(rt: &impl Abort, map: &mut PrefixMap<Ipv4Net, u32>, call: &Call) {
+/// Writes the stored value that the call lends.
+fn write_stored(rt: &impl Abort, outcome: Result<&mut u32, (Refused, u32)>, value: u32) {
+    *outcome.expect(rt, "memory") = value;
+}
+
+/// Writes the value that the call lends.
+fn write(rt: &impl Abort, lent: Option<&mut u32>, value: u32) {
+    *lent.expect(rt, "a value") = value;
+}
+
+/// The key of a vacant entry.
+fn vacant_key(rt: &impl Abort, map: &mut PrefixMap<Ipv4Net, u32>) {
     let entry = map.entry(net(rt, "10.1.2.3/16"));
-    match call {
-        VacantKey => {
-            is_text(rt, *entry.key(), "10.1.2.3/16");
-            is_equal(rt, entry.get().is_none(), true);
-            lent_is(rt, entry.or_insert(7), 7);
-        }
-        _ => {
-            is_text(rt, *entry.key(), "10.1.0.0/16");
-            is_equal(rt, entry.get().copied(), Some(7));
-        }
-    }
+    is_text(rt, *entry.key(), "10.1.2.3/16");
+    is_equal(rt, entry.get().is_none(), true);
+    lent_is(rt, entry.or_insert(7), 7);
+}
+
+/// The key of an occupied entry.
+fn very_key(rt: &impl Abort, map: &mut PrefixMap<Ipv4Net, u32>) {
+    let entry = map.entry(net(rt, "10.1.2.3/16"));
+    is_text(rt, *entry.key(), "10.1.0.0/16");
+    is_equal(rt, entry.get().copied(), Some(7));
 }
 
 /// The key of a `VacantEntry`.
@@ -271,33 +300,44 @@ fn matched(rt: &impl Abort, map: &mut PrefixMap<Ipv4Net, u32>) {
     *value = 7;
 }
 
+/// `insert`, twice.
+fn stored(rt: &impl Abort, map: &mut PrefixMap<Ipv4Net, u32>) {
+    had_is(rt, map.entry(net(rt, "10.1.2.3/8")).insert(1), None);
+    let found = map.get(&net(rt, "10.0.0.0/8")).copied();
+    is_equal(rt, found, Some(1));
+    had_is(rt, map.entry(net(rt, "10.9.9.9/8")).insert(2), Some(1));
+}
+
+/// No match of 11.0.0.0/8 is lent.
+fn no_match(rt: &impl Abort, map: &mut PrefixMap<Ipv4Net, u32>) {
+    let found = map.get_lpm_mut(&net(rt, "11.0.0.0/8"));
+    is_equal(rt, found.is_none(), true);
+}
+
+/// No value for 10.2.3.0/24 is lent.
+fn no_entry(rt: &impl Abort, map: &mut PrefixMap<Ipv4Net, u32>) {
+    let mut entry = map.entry(net(rt, "10.2.3.0/24"));
+    is_equal(rt, entry.get_mut().is_none(), true);
+}
+
 /// Makes the call and checks its result.
 fn calls(rt: &impl Abort, map: &mut PrefixMap<Ipv4Net, u32>, call: &Call) {
     let ten = net(rt, "10.0.0.0/8");
     match call {
+        VacantKey => vacant_key(rt, map),
         Defaulted => defaulted(rt, map),
-        Lent => *map.entry(ten).or_insert(1).expect(rt, "memory") = 5,
+        VeryKey => very_key(rt, map),
+        Lent => write_stored(rt, map.entry(ten).or_insert(1), 5),
         OrInserted => or_inserted(rt, map),
-        Written => *map.entry(ten).get_mut().expect(rt, "a value") = 7,
+        Written => write(rt, map.entry(ten).get_mut(), 7),
         Occupied => occupied(rt, map),
         Removed => removed(rt, map),
-        Stored => {
-            had_is(rt, map.entry(net(rt, "10.1.2.3/8")).insert(1), None);
-            is_equal(rt, map.get(&ten).copied(), Some(1));
-            had_is(rt, map.entry(net(rt, "10.9.9.9/8")).insert(2), Some(1));
-        }
+        Stored => stored(rt, map),
         StoredTwice => stored_twice(rt, map),
         WrittenAfter => written_after(rt, map),
-        NoMatch => {
-            let found = map.get_lpm_mut(&net(rt, "11.0.0.0/8"));
-            is_equal(rt, found.is_none(), true);
-        }
-        NoEntry => {
-            let mut entry = map.entry(net(rt, "10.2.3.0/24"));
-            is_equal(rt, entry.get_mut().is_none(), true);
-        }
+        NoMatch => no_match(rt, map),
+        NoEntry => no_entry(rt, map),
         Matched => matched(rt, map),
-        of_a_key => keys(rt, map, of_a_key),
     }
 }
 

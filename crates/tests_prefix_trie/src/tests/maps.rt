@@ -42,9 +42,14 @@ pub(crate) fn map_of(
 ) -> PrefixMap<Ipv4Net, u32> {
     let mut map = PrefixMap::new(alloc).expect(rt, "a map");
     for (network, value) in networks.iter() {
-        is_equal(rt, map.insert(net(rt, network), *value).is_ok(), true);
+        store(rt, &mut map, network, *value);
     }
     map
+}
+
+/// Stores the value at the network of the text.
+fn store(rt: &impl Abort, map: &mut PrefixMap<Ipv4Net, u32>, network: &str, value: u32) {
+    is_equal(rt, map.insert(net(rt, network), value).is_ok(), true);
 }
 
 /// A map of these keys of 32 bits, stored in this order.
@@ -55,10 +60,15 @@ pub(crate) fn plain_map_of(
 ) -> PrefixMap<(u32, u8), u32> {
     let mut map = PrefixMap::new(alloc).expect(rt, "a map");
     for (key, value) in keys.iter() {
-        assert!(rt; key.1 <= 32);
-        is_equal(rt, map.insert(*key, *value).is_ok(), true);
+        store_plain(rt, &mut map, *key, *value);
     }
     map
+}
+
+/// Stores the value at a key of at most 32 bits.
+fn store_plain(rt: &impl Abort, map: &mut PrefixMap<(u32, u8), u32>, key: (u32, u8), value: u32) {
+    assert!(rt; key.1 <= 32);
+    is_equal(rt, map.insert(key, value).is_ok(), true);
 }
 
 /// Checks that a network was found, and checks its text.

@@ -5,6 +5,7 @@ ghost use Rattle.std.specs.List.{All};
 use crate::tests::maps::{holds, is_equal, plain_map_of};
 use crate::tests::set_steps::digits;
 use prefix_trie::map::{IntoIter, IntoKeys, IntoValues, IterMut};
+use prefix_trie::set::Iter;
 use prefix_trie::{PrefixMap, PrefixSet, Refused};
 use std::alloc::Global;
 use std::cell::Cell;
@@ -40,10 +41,15 @@ pub(crate) fn set_with(
 ) -> PrefixSet<(u32, u8)> {
     let mut set = PrefixSet::new(alloc).expect(rt, "a set");
     for member in members.iter() {
-        assert!(rt; member.1 <= 32);
-        is_equal(rt, set.insert(*member), Ok(true));
+        insert_new(rt, &mut set, *member);
     }
     set
+}
+
+/// Inserts a member that is new.
+fn insert_new(rt: &impl Abort, set: &mut PrefixSet<(u32, u8)>, member: (u32, u8)) {
+    assert!(rt; member.1 <= 32);
+    is_equal(rt, set.insert(member), Ok(true));
 }
 
 /// 10.9.0.0/16, 10.1.0.0/16 and 10.7.7.7/8.
@@ -61,9 +67,14 @@ fn counts(rt: &impl Abort, set: &PrefixSet<(u32, u8)>, members: usize, nodes: us
 /// Checks that the map has these entries.
 fn has(rt: &impl Abort, map: &PrefixMap<(u32, u8), u32>, entries: &[((u32, u8), u32)]) {
     for (key, value) in entries.iter() {
-        assert!(rt; key.1 <= 32);
-        is_equal(rt, map.get(key).copied(), Some(*value));
+        has_one(rt, map, key, *value);
     }
+}
+
+/// Checks that the map has this entry.
+fn has_one(rt: &impl Abort, map: &PrefixMap<(u32, u8), u32>, key: &(u32, u8), value: u32) {
+    assert!(rt; key.1 <= 32);
+    is_equal(rt, map.get(key).copied(), Some(value));
 }
 
 #[test]
@@ -74,17 +85,26 @@ fn made_of_members(rt: HostRuntime) {
         (0x0a01_0000, 16),
         (0x0a09_0808, 16),
     ];
-    let set = set_of(&rt, rt.alloc(), members).expect(&rt, "a set");
-    is_equal(&rt, digits(set.iter()), 1019);
-    counts(&rt, &set, 3, 5);
-    holds(&rt, set.contains(&(0x0a00_0000, 8)));
+    is_made(&rt, &set_of(&rt, rt.alloc(), members).expect(&rt, "a set"));
+}
+
+/// Checks the members and the nodes of the set of the test above.
+fn is_made(rt: &impl Abort, set: &PrefixSet<(u32, u8)>) {
+    is_equal(rt, digits(set.iter()), 1019);
+    counts(rt, set, 3, 5);
+    holds(rt, set.contains(&(0x0a00_0000, 8)));
+}
+
+/// Checks the members that a copy of the walk gives.
+fn copy_gives(rt: &impl Abort, members: &Iter<'_, (u32, u8)>, wanted: u32) {
+    is_equal(rt, digits(members.clone().expect(rt, "a copy")), wanted);
 }
 
 /// Takes one member from a walk, and checks the rest by a copy of the walk.
 fn rest_is(rt: &impl Abort, set: &PrefixSet<(u32, u8)>, wanted: u32) {
     let mut members = set.iter();
     holds(rt, members.next().is_some());
-    is_equal(rt, digits(members.clone().expect(rt, "a copy")), wanted);
+    copy_gives(rt, &members, wanted);
 }
 
 #[test]
@@ -227,6 +247,18 @@ impl<'a> Drop for Counted<'a> {
     }
 }
 
+/// Stores such a value.
+fn store_counted<'a>(
+    rt: &impl Abort,
+    map: &mut PrefixMap<(u32, u8), Counted<'a>>,
+    key: (u32, u8),
+    drops: &'a Cell<u32>,
+)
+    requires { IsTrue (nat_le key.1 32) }
+{
+    holds(rt, map.insert(key, Counted { drops }).is_ok());
+}
+
 /// A map of three such values, at 0/0, 0/1 and 0x80000000/1.
 fn three_counted<'a>(
     rt: &impl Abort,
@@ -234,9 +266,9 @@ fn three_counted<'a>(
     drops: &'a Cell<u32>,
 ) -> PrefixMap<(u32, u8), Counted<'a>> {
     let mut map = PrefixMap::new(alloc).expect(rt, "a map");
-    holds(rt, map.insert((0, 0), Counted { drops }).is_ok());
-    holds(rt, map.insert((0, 1), Counted { drops }).is_ok());
-    holds(rt, map.insert((0x8000_0000, 1), Counted { drops }).is_ok());
+    store_counted(rt, &mut map, (0, 0), drops);
+    store_counted(rt, &mut map, (0, 1), drops);
+    store_counted(rt, &mut map, (0x8000_0000, 1), drops);
     map
 }
 

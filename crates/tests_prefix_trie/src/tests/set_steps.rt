@@ -134,12 +134,14 @@ fn ask_of_all(rt: &impl Abort, at: (&str, usize), set: &PrefixSet<Member>, step:
             step_is(rt, at, set.is_empty(), *members == 0);
         }
         Addresses(wanted) => step_is(rt, at, set.address_count(), *wanted),
-        Walk(wanted) => {
-            step_is(rt, at, digits(set.iter()), *wanted);
-            step_is(rt, at, digits(set.into_iter()), *wanted);
-        }
+        Walk(wanted) => step_is(rt, at, all_walked(set), (*wanted, *wanted)),
         _ => (),
     }
+}
+
+/// The members that `iter` and a walk by reference give, as digits.
+fn all_walked(set: &PrefixSet<Member>) -> (u32, u32) {
+    (digits(set.iter()), digits(set.into_iter()))
 }
 
 /// Checks the calls of a script in order, on a set of these members, which were stored in this order.

@@ -144,6 +144,11 @@ fn length_is(
     step_is(rt, at, found, wanted);
 }
 
+/// Writes the value that a call lends.
+fn write(rt: &impl Abort, at: (&str, usize), lent: Option<&mut u32>, value: u32) {
+    *lent.expect(rt, at.0) = value;
+}
+
 /// Checks a call that changes the map at a prefix, or one of the calls below.
 fn change<P: Prefix + Copy + Drop + PartialEq + Debug, S: Spells<P>>(
     rt: &impl Abort,
@@ -159,7 +164,7 @@ fn change<P: Prefix + Copy + Drop + PartialEq + Debug, S: Spells<P>>(
         Remove(had) => step_is(rt, at, map.remove(&key), *had),
         KeepTree(had) => step_is(rt, at, map.remove_keep_tree(&key), *had),
         RemoveChildren => map.remove_children(&key),
-        Write(value) => *map.get_mut(&key).expect(rt, at.0) = *value,
+        Write(value) => write(rt, at, map.get_mut(&key), *value),
         asked => ask(rt, at, map, &key, asked),
     }
 }
@@ -230,12 +235,14 @@ fn ask_of_all<P: Prefix + Drop, S>(
             step_is(rt, at, map.is_empty(), *entries == 0);
         }
         Addresses(wanted) => addresses_are(rt, at, map, *wanted),
-        Walk(values) => {
-            step_is(rt, at, digits(map.iter()), *values);
-            step_is(rt, at, value_digits(map.values()), *values);
-        }
+        Walk(values) => step_is(rt, at, walked(map), (*values, *values)),
         _ => (),
     }
+}
+
+/// The values that the walks over all entries and over all values give, as digits.
+fn walked<P: Prefix + Drop>(map: &PrefixMap<P, u32>) -> (u32, u32) {
+    (digits(map.iter()), value_digits(map.values()))
 }
 
 /// Checks the number of addresses.
@@ -264,12 +271,43 @@ fn goes<P: Prefix + Copy + Drop + PartialEq + Debug, S: Spells<P>>(
     steps: &[Step<S>],
 ) {
     let mut map: PrefixMap<P, u32> = PrefixMap::new(alloc).expect(rt, "a map");
+    store_all(rt, row, &mut map, stored);
+    take_all(rt, row, &mut map, steps);
+}
+
+/// Stores an entry of which nothing is stored.
+fn store<P: Prefix + Copy + Drop + PartialEq + Debug, S: Spells<P>>(
+    rt: &impl Abort,
+    row: &str,
+    map: &mut PrefixMap<P, u32>,
+    key: &S,
+    value: u32,
+) {
+    let key = key.prefix().expect(rt, row);
+    step_is(rt, (row, 0), map.insert(key, value), Ok(None));
+}
+
+/// Stores these entries in this order.
+fn store_all<P: Prefix + Copy + Drop + PartialEq + Debug, S: Spells<P>>(
+    rt: &impl Abort,
+    row: &str,
+    map: &mut PrefixMap<P, u32>,
+    stored: &[(S, u32)],
+) {
     for (key, value) in stored {
-        let key = key.prefix().expect(rt, row);
-        step_is(rt, (row, 0), map.insert(key, *value), Ok(None));
+        store(rt, row, map, key, *value);
     }
+}
+
+/// Checks the calls in order.
+fn take_all<P: Prefix + Copy + Drop + PartialEq + Debug, S: Spells<P>>(
+    rt: &impl Abort,
+    row: &str,
+    map: &mut PrefixMap<P, u32>,
+    steps: &[Step<S>],
+) {
     for (at, each) in steps.iter().enumerate() {
-        take(rt, (row, at), &mut map, each);
+        take(rt, (row, at), map, each);
     }
 }
 

@@ -14,15 +14,25 @@ const CLOSING: [&str; 4] = ["ok\n", "none\n", "bad\n", "refused\n"];
 fn calls_of(rt: &impl Abort, alloc: Global, mode: Mode, wanted: &str) -> String {
     let mut calls = String::new(alloc);
     for line in wanted.split_inclusive('\n') {
-        calls.push_str(line).expect(rt, "memory");
-        if CLOSING.contains(&line) {
-            calls.push(FLUSHED).expect(rt, "memory");
-        }
+        push_line(rt, &mut calls, line);
     }
     if matches!(mode, Mode::Shorten) {
-        calls.push(FLUSHED).expect(rt, "memory");
+        push_flush(rt, &mut calls);
     }
     calls
+}
+
+/// Adds the calls for the line.
+fn push_line(rt: &impl Abort, calls: &mut String, line: &str) {
+    calls.push_str(line).expect(rt, "memory");
+    if CLOSING.contains(&line) {
+        push_flush(rt, calls);
+    }
+}
+
+/// Adds a `flush`.
+fn push_flush(rt: &impl Abort, calls: &mut String) {
+    calls.push(FLUSHED).expect(rt, "memory");
 }
 
 /// The first `count` calls.
@@ -88,23 +98,40 @@ fn goes_by_bytes(rt: &impl Abort, alloc: Global, run: (Mode, &str), calls: &str)
 /// Checks the run with each length of the first piece. Further pieces have `others` bytes, and the last one has the rest.
 fn goes_in_pieces(rt: &impl Abort, alloc: Global, run: (Mode, &str), calls: &str, others: usize) {
     for first in 1..=run.1.len() {
-        let left = run.1.len().wrapping_sub(first);
-        let reads = left.div_ceil(others.max(1)).wrapping_add(2);
-        let end = End(Ok(()), reads, calls);
-        ends(rt, alloc, run, Script::Pieces(first, others), end);
+        goes_by_first(rt, alloc, run, calls, (first, others));
     }
+}
+
+/// Checks the run with these lengths of the first piece and of further ones.
+fn goes_by_first(
+    rt: &impl Abort,
+    alloc: Global,
+    run: (Mode, &str),
+    calls: &str,
+    lengths: (usize, usize),
+) {
+    let (first, others) = lengths;
+    let left = run.1.len().wrapping_sub(first);
+    let reads = left.div_ceil(others.max(1)).wrapping_add(2);
+    let end = End(Ok(()), reads, calls);
+    ends(rt, alloc, run, Script::Pieces(first, others), end);
 }
 
 /// Lets each read fail in turn, with an error or as interrupted. A leader and an installer have then answered each whole line before it;
 /// the other runs have written nothing. No further call is made.
 fn reads_fail(rt: &impl Abort, alloc: Global, run: (Mode, &str), calls: &str) {
     for came in 0..=run.1.len() {
-        let reads = came.wrapping_add(1);
-        let served = calls_until(calls, answered(run.0, run.1, came));
-        let end = End(Err(RunError::Read), reads, first_calls(rt, calls, served));
-        for fault in [Fault::Broken, Fault::Interrupted] {
-            ends(rt, alloc, run, Script::Read(reads, fault), end);
-        }
+        a_read_ends(rt, alloc, run, calls, came);
+    }
+}
+
+/// The same of the read after so many bytes.
+fn a_read_ends(rt: &impl Abort, alloc: Global, run: (Mode, &str), calls: &str, came: usize) {
+    let reads = came.wrapping_add(1);
+    let served = calls_until(calls, answered(run.0, run.1, came));
+    let end = End(Err(RunError::Read), reads, first_calls(rt, calls, served));
+    for fault in [Fault::Broken, Fault::Interrupted] {
+        ends(rt, alloc, run, Script::Read(reads, fault), end);
     }
 }
 
@@ -113,12 +140,17 @@ fn reads_fail(rt: &impl Abort, alloc: Global, run: (Mode, &str), calls: &str) {
 /// to the end.
 fn writes_fail(rt: &impl Abort, alloc: Global, run: (Mode, &str), calls: &str) {
     for served in 0..calls.len() {
-        let done = first_calls(rt, calls, served);
-        let end = End(Err(RunError::Write), reads_for(run.0, run.1, done), done);
-        for fault in [Fault::Broken, Fault::Interrupted, Fault::Nothing] {
-            let script = Script::Write(served.wrapping_add(1), 1, fault);
-            ends(rt, alloc, run, script, end);
-        }
+        a_write_ends(rt, alloc, run, calls, served);
+    }
+}
+
+/// The same of the call after so many calls.
+fn a_write_ends(rt: &impl Abort, alloc: Global, run: (Mode, &str), calls: &str, served: usize) {
+    let done = first_calls(rt, calls, served);
+    let end = End(Err(RunError::Write), reads_for(run.0, run.1, done), done);
+    for fault in [Fault::Broken, Fault::Interrupted, Fault::Nothing] {
+        let script = Script::Write(served.wrapping_add(1), 1, fault);
+        ends(rt, alloc, run, script, end);
     }
 }
 
@@ -150,9 +182,14 @@ fn goes(rt: &impl Abort, alloc: Global, way: Way, run: (Mode, &str), wanted: &st
 /// Checks all these runs in this way.
 fn all_go(rt: &impl Abort, alloc: Global, way: Way, tables: &[(Mode, &[(&str, &str)])]) {
     for (mode, rows) in tables {
-        for (input, wanted) in *rows {
-            goes(rt, alloc, way, (*mode, input), wanted);
-        }
+        rows_go(rt, alloc, way, *mode, rows);
+    }
+}
+
+/// Checks the runs of a mode in this way.
+fn rows_go(rt: &impl Abort, alloc: Global, way: Way, mode: Mode, rows: &[(&str, &str)]) {
+    for (input, wanted) in rows {
+        goes(rt, alloc, way, (mode, input), wanted);
     }
 }
 
@@ -243,7 +280,7 @@ const LONG: &str =
     "12345678901234567890123456789012345678901234567890123456789012345678901234567890\n123456789012345678901234567890123456789012345678901234567890123456789012345678901\n";
 
 /// Runs: the input; the most bytes that a `write` takes, and the writer's call that fails; and the whole output.
-const WRITES: [(Mode, &str, (usize, usize), &str); 10] = [
+static WRITES: [(Mode, &str, (usize, usize), &str); 10] = [
     // A `flush` fails after each kind of closing line, or at the end. The writer holds the line with its line end, and nothing after it.
     (Mode::Lead, "add 10.0.0.0/8 1\nflat\n", (80, 3), SET),
     (Mode::Lead, "del 10.0.0.0/8 1\nflat\n", (80, 2), "none\n"),
@@ -270,15 +307,27 @@ const WRITES: [(Mode, &str, (usize, usize), &str); 10] = [
 
 #[test]
 fn a_write_fails(rt: HostRuntime) {
-    for (mode, input, (most, fails), done) in WRITES {
-        let script = Script::Write(fails, most, Fault::Broken);
-        let end = End(Err(RunError::Write), reads_for(mode, input, done), done);
-        ends(&rt, rt.alloc(), (mode, input), script, end);
+    for (mode, input, places, done) in &WRITES {
+        a_write_breaks(&rt, rt.alloc(), (*mode, input), *places, done);
     }
 }
 
+/// Lets the writer's call of this number fail, with so many bytes for each call.
+fn a_write_breaks(
+    rt: &impl Abort,
+    alloc: Global,
+    run: (Mode, &str),
+    places: (usize, usize),
+    done: &str,
+) {
+    let (most, fails) = places;
+    let script = Script::Write(fails, most, Fault::Broken);
+    let end = End(Err(RunError::Write), reads_for(run.0, run.1, done), done);
+    ends(rt, alloc, run, script, end);
+}
+
 /// Runs: the input; the read that fails, or 0 if none does, and the number of reads; the result; and the whole output.
-const READS: [(Mode, &str, (usize, usize), Result<(), RunError>, &str); 8] = [
+static READS: [(Mode, &str, (usize, usize), Result<(), RunError>, &str); 8] = [
     // The reader fails inside the second line. The first line is answered.
     (
         Mode::Lead,
@@ -301,14 +350,9 @@ const READS: [(Mode, &str, (usize, usize), Result<(), RunError>, &str); 8] = [
 
 #[test]
 fn a_read_fails(rt: HostRuntime) {
-    for (mode, input, (fails, reads), result, done) in READS {
-        let script = Script::Read(fails, Fault::Broken);
-        ends(
-            &rt,
-            rt.alloc(),
-            (mode, input),
-            script,
-            End(result, reads, done),
-        );
+    for (mode, input, (fails, reads), result, done) in &READS {
+        let script = Script::Read(*fails, Fault::Broken);
+        let end = End(*result, *reads, done);
+        ends(&rt, rt.alloc(), (*mode, input), script, end);
     }
 }

@@ -49,15 +49,16 @@ const FOLLOWED: [(&str, &[(&str, Option<u32>)], Option<&[(&str, Hop)]>); 4] = [
     (FAILED, &[("10.0.0.0", Some(1))], None),
 ];
 
-/// Feeds these lines. The follower must accept each line except `FOREIGN`.
+/// Feeds the line. The follower must accept each line except `FOREIGN`.
+fn take(rt: &impl Abort, follower: &mut Follower, line: &str) {
+    let is_taken = follower.line(line.as_bytes()).is_ok();
+    row_is(rt, line, is_taken, line != FOREIGN);
+}
+
+/// Feeds these lines.
 fn takes(rt: &impl Abort, follower: &mut Follower, lines: &str) {
     for line in lines.split_terminator('\n') {
-        row_is(
-            rt,
-            line,
-            follower.line(line.as_bytes()).is_ok(),
-            line != FOREIGN,
-        );
+        take(rt, follower, line);
     }
 }
 
@@ -67,16 +68,24 @@ fn address(rt: &impl Abort, text: &str) -> IpAddr {
 
 fn hops_are(rt: &impl Abort, follower: &Follower, hops: &[(&str, Option<u32>)]) {
     for (text, hop) in hops {
-        row_is(rt, text, follower.hop(address(rt, text)), *hop);
+        hop_is(rt, follower, text, *hop);
     }
+}
+
+fn hop_is(rt: &impl Abort, follower: &Follower, text: &str, hop: Option<u32>) {
+    row_is(rt, text, follower.hop(address(rt, text)), hop);
 }
 
 fn routes_are(rt: &impl Abort, routes: &[(IpNet, Hop)], wanted: &[(&str, Hop)]) {
     row_is(rt, "routes", routes.len(), wanted.len());
     let mut left = routes.iter().copied();
     for (text, hop) in wanted {
-        row_is(rt, text, left.next(), Some((net(rt, text), *hop)));
+        route_is(rt, left.next(), text, *hop);
     }
+}
+
+fn route_is(rt: &impl Abort, found: Option<(IpNet, Hop)>, text: &str, hop: Hop) {
+    row_is(rt, text, found, Some((net(rt, text), hop)));
 }
 
 fn least_is(rt: &impl Abort, lines: &str, follower: &Follower, wanted: Option<&[(&str, Hop)]>) {
@@ -95,6 +104,11 @@ fn one_change(rt: HostRuntime) -> Result<(), Fail> {
     assert_eq!(rt; follower.hop(host), None);
     follower.line(b"ok")?;
     assert_eq!(rt; follower.hop(host), Some(1));
+    has_one_route(&rt, &follower)
+}
+
+/// The least table has one route.
+fn has_one_route(rt: &impl Abort, follower: &Follower) -> Result<(), Fail> {
     let least = follower.least()?.expect(&rt, "no fault");
     assert_eq!(rt; least.len(), 1);
     Ok(())
@@ -103,9 +117,20 @@ fn one_change(rt: HostRuntime) -> Result<(), Fail> {
 #[test]
 fn followers(rt: HostRuntime) {
     for (lines, hops, least) in &FOLLOWED {
-        let mut follower = Follower::new(rt.alloc()).expect(&rt, "a follower");
-        takes(&rt, &mut follower, lines);
-        hops_are(&rt, &follower, hops);
-        least_is(&rt, lines, &follower, *least);
+        follows(&rt, rt.alloc(), lines, hops, *least);
     }
+}
+
+/// Checks the hops and the least table after these lines.
+fn follows(
+    rt: &impl Abort,
+    alloc: Global,
+    lines: &str,
+    hops: &[(&str, Option<u32>)],
+    least: Option<&[(&str, Hop)]>,
+) {
+    let mut follower = Follower::new(alloc).expect(rt, "a follower");
+    takes(rt, &mut follower, lines);
+    hops_are(rt, &follower, hops);
+    least_is(rt, lines, &follower, least);
 }

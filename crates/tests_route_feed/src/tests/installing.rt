@@ -7,13 +7,18 @@ use std::alloc::Global;
 use std::process::Abort;
 use std::test::Fail;
 
+/// Adds a line that gives an address the hop 1.
+fn push_change(rt: &impl Abort, text: &mut String, at: u16) {
+    let (high, low) = (at / 256, at % 256);
+    write!(text, "set 10.0.{high}.{low}/32 1\n").expect(rt, "memory");
+}
+
 /// A `sync`, and a reply that gives so many addresses from 10.0.0.0 on the hop 1.
 fn changes(rt: &impl Abort, alloc: Global, count: u16) -> String {
     let mut text = String::new(alloc);
     text.push_str("sync\n").expect(rt, "memory");
     for at in 0..count {
-        let (high, low) = (at / 256, at % 256);
-        write!(text, "set 10.0.{high}.{low}/32 1\n").expect(rt, "memory");
+        push_change(rt, &mut text, at);
     }
     text.push_str("ok\n").expect(rt, "memory");
     text

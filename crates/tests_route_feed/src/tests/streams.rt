@@ -291,9 +291,20 @@ fn all_give(
     end: Result<(), RunError>,
 ) {
     for (mode, rows) in tables {
-        for (input, wanted) in *rows {
-            gives(rt, alloc, (*mode, input), wanted, end);
-        }
+        rows_give(rt, alloc, *mode, rows, end);
+    }
+}
+
+/// Checks the output and the result of each row of a mode.
+fn rows_give(
+    rt: &impl Abort,
+    alloc: Global,
+    mode: Mode,
+    rows: &[(&str, &str)],
+    end: Result<(), RunError>,
+) {
+    for (input, wanted) in rows {
+        gives(rt, alloc, (mode, input), wanted, end);
     }
 }
 
@@ -361,12 +372,17 @@ fn is_flat_of(rt: &impl Abort, alloc: Global, given: &mut Vec<u8>, input: &str) 
     row_is(rt, input, told.ends_with(flat.as_slice()), true);
 }
 
+/// Checks the number of routes, and their flat list.
+fn least_is(rt: &impl Abort, alloc: Global, input: &str, routes: usize) {
+    let mut given = shortened(alloc, input.as_bytes()).expect(rt, input);
+    row_is(rt, input, line_count(given.as_slice()), routes);
+    is_flat_of(rt, alloc, &mut given, input);
+}
+
 #[test]
 fn least(rt: HostRuntime) {
     for (input, routes) in &LEAST {
-        let mut given = shortened(rt.alloc(), input.as_bytes()).expect(&rt, input);
-        row_is(&rt, input, line_count(given.as_slice()), *routes);
-        is_flat_of(&rt, rt.alloc(), &mut given, input);
+        least_is(&rt, rt.alloc(), input, *routes);
     }
 }
 
@@ -429,9 +445,13 @@ fn is_held(rt: &impl Abort, alloc: Global, beginning: &[u8]) {
 #[test]
 fn beginnings(rt: HostRuntime) {
     let told = led(rt.alloc(), COMMANDS).expect(&rt, "a run");
-    let all = told.as_slice();
+    each_is_held(&rt, rt.alloc(), told.as_slice());
+}
+
+/// Checks each beginning.
+fn each_is_held(rt: &impl Abort, alloc: Global, all: &[u8]) {
     for end in 0..=all.len() {
-        is_held(&rt, rt.alloc(), &all[..end]);
+        is_held(rt, alloc, &all[..end]);
     }
 }
 
@@ -450,7 +470,12 @@ const LONGEST: [(&str, usize); 2] = [
 #[test]
 fn longest(rt: HostRuntime) {
     for (input, lines) in &LONGEST {
-        let out = led(rt.alloc(), input.as_bytes()).expect(&rt, input);
-        row_is(&rt, input, line_count(out.as_slice()), *lines);
+        has_lines(&rt, rt.alloc(), input, *lines);
     }
+}
+
+/// Checks the number of lines of the output.
+fn has_lines(rt: &impl Abort, alloc: Global, input: &str, lines: usize) {
+    let out = led(alloc, input.as_bytes()).expect(rt, input);
+    row_is(rt, input, line_count(out.as_slice()), lines);
 }

@@ -22,31 +22,52 @@ fn hop_inside(block: u32) -> Option<u32> {
     if block % 3 == 0 { Some(block) } else { None }
 }
 
+/// The /64.
+fn net_inside(rt: &impl Abort, block: u32) -> IpNet {
+    IpNet::new(inside(block, false), 64).expect(rt, "a network")
+}
+
 /// A table of each third /64.
 fn each_third(rt: &impl Abort, alloc: Global) -> RouteTable {
     let mut table = RouteTable::new(alloc).expect(rt, "a table");
     for block in 0..BLOCKS {
         if let Some(hop) = hop_inside(block) {
-            let net = IpNet::new(inside(block, false), 64).expect(rt, "a network");
-            add(rt, &mut table, net, Hop::Number(hop), "a /64");
+            add(
+                rt,
+                &mut table,
+                net_inside(rt, block),
+                Hop::Number(hop),
+                "a /64",
+            );
         }
     }
     table
 }
 
-/// The hops of the first and the last address of each /64, one by one and together.
+/// The hops of the first and the last address of a /64, one by one and together.
+fn ends_have(rt: &impl Abort, index: &HopIndex, block: u32) {
+    let ends = [inside(block, false), inside(block, true)];
+    let mut hops = [Some(1); 2];
+    index.hops(&ends, &mut hops);
+    row_is(rt, "together", hops, [hop_inside(block); 2]);
+    row_is(rt, "the first", index.hop(ends[0]), hop_inside(block));
+    row_is(rt, "the last", index.hop(ends[1]), hop_inside(block));
+}
+
+/// The same of each /64.
+fn each_has(rt: &impl Abort, index: &HopIndex) {
+    for block in 0..BLOCKS {
+        ends_have(rt, index, block);
+    }
+}
+
 #[test]
 fn many_blocks_in_one_network(rt: HostRuntime) {
     let table = each_third(&rt, rt.alloc());
-    let index = HopIndex::from_table(rt.alloc(), &table).expect(&rt, "an index");
-    for block in 0..BLOCKS {
-        let ends = [inside(block, false), inside(block, true)];
-        let mut hops = [Some(1); 2];
-        index.hops(&ends, &mut hops);
-        row_is(&rt, "together", hops, [hop_inside(block); 2]);
-        row_is(&rt, "the first", index.hop(ends[0]), hop_inside(block));
-        row_is(&rt, "the last", index.hop(ends[1]), hop_inside(block));
-    }
+    each_has(
+        &rt,
+        &HopIndex::from_table(rt.alloc(), &table).expect(&rt, "an index"),
+    );
 }
 
 /// The address that is a power of two above 10.1.0.0, or the one after it.
@@ -63,17 +84,16 @@ fn host6(power: u32, is_after: bool) -> IpAddr {
     IpAddr::V6(Ipv6Addr::from_bits(number.wrapping_add(after)))
 }
 
+/// Adds a route of the host.
+fn add_host(rt: &impl Abort, table: &mut RouteTable, host: IpAddr, number: u32) {
+    add(rt, table, IpNet::from(host), Hop::Number(number), "a host");
+}
+
 /// A table of the IPv4 hosts at all powers of two. So a division of any cell leaves most of its ranges in one.
 fn powers4(rt: &impl Abort, alloc: Global) -> RouteTable {
     let mut table = RouteTable::new(alloc).expect(rt, "a table");
     for power in 0..16_u32 {
-        add(
-            rt,
-            &mut table,
-            IpNet::from(host4(power, false)),
-            Hop::Number(power),
-            "a host",
-        );
+        add_host(rt, &mut table, host4(power, false), power);
     }
     table
 }
@@ -82,35 +102,41 @@ fn powers4(rt: &impl Abort, alloc: Global) -> RouteTable {
 fn powers6(rt: &impl Abort, alloc: Global) -> RouteTable {
     let mut table = RouteTable::new(alloc).expect(rt, "a table");
     for power in 0..112_u32 {
-        add(
-            rt,
-            &mut table,
-            IpNet::from(host6(power, false)),
-            Hop::Number(power),
-            "a host",
-        );
+        add_host(rt, &mut table, host6(power, false), power);
     }
     table
 }
 
-/// The hop of each host, and none after it.
-#[test]
-fn ipv4_hosts_at_powers_of_two(rt: HostRuntime) {
-    let table = powers4(&rt, rt.alloc());
-    let index = HopIndex::from_table(rt.alloc(), &table).expect(&rt, "an index");
+/// The hop of each IPv4 host, and none after it.
+fn hosts4_have(rt: &impl Abort, index: &HopIndex) {
     for power in 1..16_u32 {
-        row_is(&rt, "the host", index.hop(host4(power, false)), Some(power));
-        row_is(&rt, "after it", index.hop(host4(power, true)), None);
+        row_is(rt, "the host", index.hop(host4(power, false)), Some(power));
+        row_is(rt, "after it", index.hop(host4(power, true)), None);
     }
 }
 
-/// The hop of each host, and none after it.
+#[test]
+fn ipv4_hosts_at_powers_of_two(rt: HostRuntime) {
+    let table = powers4(&rt, rt.alloc());
+    hosts4_have(
+        &rt,
+        &HopIndex::from_table(rt.alloc(), &table).expect(&rt, "an index"),
+    );
+}
+
+/// The hop of each IPv6 host, and none after it.
+fn hosts6_have(rt: &impl Abort, index: &HopIndex) {
+    for power in 1..112_u32 {
+        row_is(rt, "the host", index.hop(host6(power, false)), Some(power));
+        row_is(rt, "after it", index.hop(host6(power, true)), None);
+    }
+}
+
 #[test]
 fn ipv6_hosts_at_powers_of_two(rt: HostRuntime) {
     let table = powers6(&rt, rt.alloc());
-    let index = HopIndex::from_table(rt.alloc(), &table).expect(&rt, "an index");
-    for power in 1..112_u32 {
-        row_is(&rt, "the host", index.hop(host6(power, false)), Some(power));
-        row_is(&rt, "after it", index.hop(host6(power, true)), None);
-    }
+    hosts6_have(
+        &rt,
+        &HopIndex::from_table(rt.alloc(), &table).expect(&rt, "an index"),
+    );
 }

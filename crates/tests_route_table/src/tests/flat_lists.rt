@@ -11,19 +11,22 @@ use std::process::Abort;
 /// Checks the next pieces.
 fn pieces_come(rt: &impl Abort, flat: &mut route_table::Flat<'_>, pieces: &str) {
     for words in pieces.split_terminator(',') {
-        let (net, hop) = route(rt, words.trim());
-        let found = flat.next().expect(rt, words);
-        row_is(rt, words, (found.0, Hop::Number(found.1)), (net, hop));
+        piece_is(rt, words, flat.next());
     }
+}
+
+/// The piece is the one that the words spell.
+fn piece_is(rt: &impl Abort, words: &str, piece: Option<(IpNet, u32)>) {
+    let (net, hop) = route(rt, words.trim());
+    let found = piece.expect(rt, words);
+    row_is(rt, words, (found.0, Hop::Number(found.1)), (net, hop));
 }
 
 /// These are the pieces.
 fn pieces_are(rt: &impl Abort, found: &[(IpNet, u32)], text: &str) {
     let mut left = found.iter();
     for words in text.split_terminator(',') {
-        let (net, hop) = route(rt, words.trim());
-        let found = left.next().expect(rt, words);
-        row_is(rt, words, (found.0, Hop::Number(found.1)), (net, hop));
+        piece_is(rt, words, left.next().copied());
     }
     row_is(rt, text, left.next(), None);
 }
@@ -51,10 +54,20 @@ fn run_of(rt: &impl Abort, text: &str) -> HopRun {
 pub(crate) fn runs_are(rt: &impl Abort, table: &RouteTable, pieces: &str, runs: &str) {
     let mut flat = table.flat();
     pieces_come(rt, &mut flat, pieces);
-    for text in runs.split_terminator(',') {
-        row_is(rt, text, flat.next_run(), Some(run_of(rt, text)));
-    }
+    runs_come(rt, &mut flat, runs);
     row_is(rt, runs, flat.next_run(), None);
+}
+
+/// The run is the one that the text spells.
+fn run_is(rt: &impl Abort, text: &str, run: Option<HopRun>) {
+    row_is(rt, text, run, Some(run_of(rt, text)));
+}
+
+/// Checks the next runs.
+fn runs_come(rt: &impl Abort, flat: &mut route_table::Flat<'_>, runs: &str) {
+    for text in runs.split_terminator(',') {
+        run_is(rt, text, flat.next_run());
+    }
 }
 
 /// The piece is this network, by the hop 2.

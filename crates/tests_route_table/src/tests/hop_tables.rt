@@ -61,13 +61,18 @@ fn operation(rt: &impl Abort, text: &str) -> Operation {
     Operation::Remove { net: net(rt, text) }
 }
 
+/// Checks that the operation is the one that the text spells.
+fn operation_is(rt: &impl Abort, row: &str, found: Option<Operation>, text: &str) {
+    row_is(rt, row, found, Some(operation(rt, text.trim())));
+}
+
 /// Checks the remaining operations.
 fn operations_are<I: Iterator<Item = Operation>>(rt: &impl Abort, left: I, wanted: &str)
     requires { (it : I) → I.can_next it }
 {
     let mut left = left;
     for text in wanted.split_terminator(',') {
-        row_is(rt, wanted, left.next(), Some(operation(rt, text.trim())));
+        operation_is(rt, wanted, left.next(), text);
     }
     row_is(rt, wanted, left.next(), None);
 }
@@ -82,13 +87,24 @@ fn between(rt: &impl Abort, alloc: Global, old: &HopTable, text: &str, wanted: &
 
 /// Makes the changes of the text by `updates` and `carry_out`, and checks the number of operations.
 fn carry_out(rt: &impl Abort, alloc: Global, table: &mut HopTable, text: &str, count: usize) {
-    let mut changes = Vec::new(alloc);
-    for words in text.split_terminator(',') {
-        changes.push(route(rt, words.trim())).expect(rt, "memory");
-    }
+    let changes = routes_of(rt, alloc, text);
     let updates = table.updates(changes.as_slice()).expect(rt, "memory");
     row_is(rt, text, updates.len(), count);
     row_is(rt, text, table.carry_out(updates.as_slice()), Ok(()));
+}
+
+/// Adds the route that the words spell.
+fn push_route(rt: &impl Abort, routes: &mut Vec<(IpNet, Hop)>, words: &str) {
+    routes.push(route(rt, words.trim())).expect(rt, "memory");
+}
+
+/// The routes of the text.
+fn routes_of(rt: &impl Abort, alloc: Global, text: &str) -> Vec<(IpNet, Hop)> {
+    let mut routes = Vec::new(alloc);
+    for words in text.split_terminator(',') {
+        push_route(rt, &mut routes, words);
+    }
+    routes
 }
 
 /// Checks the number of the operations that carry out the changes of the text, and the flat list after them.
@@ -108,10 +124,15 @@ fn is_rebuilt(rt: &impl Abort, alloc: Global, table: &HopTable) {
 /// Checks these longest matches.
 fn matches_are(rt: &impl Abort, table: &HopTable, rows: &[(&str, &str)]) {
     for (text, wanted) in rows {
-        let (net_wanted, hop) = route(rt, wanted);
-        let found = table.get(&net(rt, text));
-        row_is(rt, text, found, Some((net_wanted, hop, 100)));
+        match_is(rt, table, text, wanted);
     }
+}
+
+/// Checks the longest match of the network.
+fn match_is(rt: &impl Abort, table: &HopTable, text: &str, wanted: &str) {
+    let (net_wanted, hop) = route(rt, wanted);
+    let found = table.get(&net(rt, text));
+    row_is(rt, text, found, Some((net_wanted, hop, 100)));
 }
 
 /// Checks the answer of the step.
@@ -126,13 +147,18 @@ fn go(rt: &impl Abort, alloc: Global, table: &mut HopTable, step: &Step) {
     }
 }
 
-/// Checks the least table.
-fn least_is(rt: &impl Abort, alloc: Global, row: &str, table: HopTable, least: &str) {
+/// The routes of the least table.
+fn least_of(rt: &impl Abort, alloc: Global, table: HopTable) -> Vec<(IpNet, Hop)> {
     let mut list = Vec::new(alloc);
     for route in table.into_least().expect(rt, "memory") {
         list.push(route).expect(rt, "memory");
     }
-    routes_are(rt, row, list.as_slice(), least);
+    list
+}
+
+/// Checks the least table.
+fn least_is(rt: &impl Abort, alloc: Global, row: &str, table: HopTable, least: &str) {
+    routes_are(rt, row, least_of(rt, alloc, table).as_slice(), least);
 }
 
 /// Checks the steps in order, from an empty table, and the least table after them.

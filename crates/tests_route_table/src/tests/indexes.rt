@@ -96,13 +96,18 @@ fn addresses(rt: &impl Abort) -> [IpAddr; 59] {
     addrs
 }
 
+/// Checks the hop of the address.
+fn hop_is(rt: &impl Abort, index: &HopIndex, text: &str, hop: Option<u32>) {
+    row_is(rt, text, index.hop(address(rt, text)), hop);
+}
+
 /// Checks the hop of each address, in a single look-up and in one look-up of all addresses.
 fn hops_are(rt: &impl Abort, index: &HopIndex) {
     let mut hops = [None; 59];
     index.hops(&addresses(rt), &mut hops);
     let mut left = hops.iter();
     for (text, hop) in &HOPS {
-        row_is(rt, text, index.hop(address(rt, text)), *hop);
+        hop_is(rt, index, text, *hop);
         row_is(rt, text, left.next().copied(), Some(*hop));
     }
 }
@@ -142,12 +147,16 @@ fn index_of(rt: &impl Abort, alloc: Global, table: &RouteTable) -> HopIndex {
     HopIndex::from_table(alloc, table).expect(rt, "an index")
 }
 
+/// Checks these hops by the index.
+fn index_has(rt: &impl Abort, index: &HopIndex, hops: &[(&str, Option<u32>)]) {
+    for (text, hop) in hops {
+        hop_is(rt, index, text, *hop);
+    }
+}
+
 /// Checks the hops by an index of a table of these routes.
 fn index_of_has(rt: &impl Abort, alloc: Global, routes: &str, hops: &[(&str, Option<u32>)]) {
-    let index = index_of(rt, alloc, &table(rt, alloc, routes));
-    for (text, hop) in hops {
-        row_is(rt, text, index.hop(address(rt, text)), *hop);
-    }
+    index_has(rt, &index_of(rt, alloc, &table(rt, alloc, routes)), hops);
 }
 
 /// Stores these routes.
@@ -161,26 +170,52 @@ fn overwrite_all(rt: &impl Abort, table: &mut HopTable, routes: &[(IpNet, Hop, u
 fn best(rt: &impl Abort, alloc: Global, routes: &RouteTable) -> HopTable {
     let mut table = hop_table(rt, alloc);
     for all in ["0.0.0.0/0", "::/0"] {
-        let found = listed(rt, alloc, routes.list(&net(rt, all)));
-        overwrite_all(rt, &mut table, found.as_slice());
+        overwrite_all(
+            rt,
+            &mut table,
+            routes_inside(rt, alloc, routes, all).as_slice(),
+        );
     }
     table
 }
 
-/// Checks an index of the table, and an index of the hop table of its best routes.
-pub(crate) fn indexes_are(rt: &impl Abort, alloc: Global, table: &RouteTable) {
-    let index = index_of(rt, alloc, table);
-    hops_are(rt, &index);
-    batches_are(rt, &index);
-    let best = best(rt, alloc, table);
+/// The routes inside this network.
+fn routes_inside(
+    rt: &impl Abort,
+    alloc: Global,
+    routes: &RouteTable,
+    all: &str,
+) -> Vec<(IpNet, Hop, u16)> {
+    listed(rt, alloc, routes.list(&net(rt, all)))
+}
+
+/// Checks the hops, one by one, together, and in batches.
+fn all_are(rt: &impl Abort, index: &HopIndex) {
+    hops_are(rt, index);
+    batches_are(rt, index);
+}
+
+/// Checks an index of the hop table.
+fn index_of_best_is(rt: &impl Abort, alloc: Global, best: &HopTable) {
     let index = HopIndex::from_hop_table(alloc, &best).expect(rt, "an index");
     hops_are(rt, &index);
+}
+
+/// Checks an index of the table, and an index of the hop table of its best routes.
+pub(crate) fn indexes_are(rt: &impl Abort, alloc: Global, table: &RouteTable) {
+    all_are(rt, &index_of(rt, alloc, table));
+    index_of_best_is(rt, alloc, &best(rt, alloc, table));
 }
 
 /// An index of a table without routes has no hop, and still has none after a route is added to the table.
 pub(crate) fn stays_empty(rt: &impl Abort, alloc: Global, table: &mut RouteTable, text: &str) {
     let index = index_of(rt, alloc, table);
     put(rt, table, text, Hop::Number(1));
+    has_no_hop(rt, &index);
+}
+
+/// Checks that the index has no hop.
+fn has_no_hop(rt: &impl Abort, index: &HopIndex) {
     row_is(rt, "10.0.0.1", index.hop(address(rt, "10.0.0.1")), None);
     row_is(rt, "::1", index.hop(address(rt, "::1")), None);
 }

@@ -3,7 +3,7 @@ use crate::tests::steps::Step::{BuiltBack, Least};
 use crate::tests::steps::{Script, carry_out};
 use crate::tests::tables::{add, hop_table, pieces, routes_are, row_is, table};
 use ipnet::{IpAddr, IpNet};
-use route_table::{Hop, Refused, RouteTable};
+use route_table::{Hop, HopTable, LeastRoutes, Refused, RouteTable};
 use std::alloc::Global;
 use std::net::Ipv4Addr;
 use std::process::Abort;
@@ -44,8 +44,7 @@ pub(crate) fn is_built_back(
     row_is(rt, row, least.len(), wanted);
     let (v4, v6) = table.count();
     row_is(rt, row, least.len() <= v4.wrapping_add(v6), true);
-    let other = built(rt, alloc, least.as_slice());
-    let count = same_flat(rt, alloc, table, &other);
+    let count = same_flat(rt, alloc, table, &built(rt, alloc, least.as_slice()));
     row_is(rt, row, least.len() <= count, true);
 }
 
@@ -146,22 +145,38 @@ fn least(rt: HostRuntime) {
     carry_out(&rt, rt.alloc(), &LEAST);
 }
 
+/// Installs the host with its own hop.
+fn install_host(rt: &impl Abort, table: &mut HopTable, number: u32) {
+    let host = IpNet::from(IpAddr::V4(Ipv4Addr::from_bits(number)));
+    table
+        .install(host, Hop::Number(number))
+        .expect(rt, "memory");
+}
+
+/// Installs 5000 hosts.
+fn install_hosts(rt: &impl Abort, table: &mut HopTable) {
+    for number in 0..5000 {
+        install_host(rt, table, number);
+    }
+}
+
+/// The number of the routes, and the sum of their hops.
+fn sums(routes: LeastRoutes) -> (u32, u32) {
+    let (mut count, mut sum) = (0_u32, 0_u32);
+    for (_, hop) in routes {
+        count = count.wrapping_add(1);
+        sum = sum.wrapping_add(hop.number().unwrap_or(0));
+    }
+    (count, sum)
+}
+
 /// Consecutive hosts, each with its own hop, so that each hop needs one route. The steps, the hops of sets and the routes each fill more
 /// than one block of memory.
 #[test]
 fn more_than_a_block(rt: HostRuntime) {
     let mut table = hop_table(&rt, rt.alloc());
-    for number in 0..5000 {
-        let host = IpNet::from(IpAddr::V4(Ipv4Addr::from_bits(number)));
-        table
-            .install(host, Hop::Number(number))
-            .expect(&rt, "memory");
-    }
-    let (mut count, mut sum) = (0_u32, 0_u32);
-    for (_, hop) in table.into_least().expect(&rt, "memory") {
-        count = count.wrapping_add(1);
-        sum = sum.wrapping_add(hop.number().unwrap_or(0));
-    }
+    install_hosts(&rt, &mut table);
+    let (count, sum) = sums(table.into_least().expect(&rt, "memory"));
     row_is(&rt, "routes", count, 5000);
     row_is(&rt, "their hops", sum, 12_497_500);
 }

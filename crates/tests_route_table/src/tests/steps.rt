@@ -181,12 +181,16 @@ fn governed(rt: &impl Abort, alloc: Global, table: &RouteTable, asked: &IpNet) -
     table.governed(asked).collect(alloc).expect(rt, "memory")
 }
 
+/// This is the route, by the hop 1.
+fn listed_is(rt: &impl Abort, at: (&str, usize), found: Option<(IpNet, Hop, u16)>, text: &str) {
+    step_is(rt, at, found, Some((net(rt, text), Hop::Number(1), 100)));
+}
+
 /// These are the routes, all by the hop 1.
 fn list_is(rt: &impl Abort, at: (&str, usize), found: &[(IpNet, Hop, u16)], texts: &[&str]) {
     let mut left = found.iter();
     for text in texts {
-        let wanted = (net(rt, text), Hop::Number(1), 100);
-        step_is(rt, at, left.next().copied(), Some(wanted));
+        listed_is(rt, at, left.next().copied(), text);
     }
     step_is(rt, at, left.next(), None);
 }

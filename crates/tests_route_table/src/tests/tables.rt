@@ -40,12 +40,16 @@ pub(crate) fn route(rt: &impl Abort, words: &str) -> (IpNet, Hop) {
     (net(rt, network), hop_of(rt, word))
 }
 
+/// Checks that the route is the one that the words spell.
+fn route_is(rt: &impl Abort, row: &str, found: Option<(IpNet, Hop)>, words: &str) {
+    row_is(rt, row, found, Some(route(rt, words.trim())));
+}
+
 /// Checks that these are the routes of the text, in this order.
 pub(crate) fn routes_are(rt: &impl Abort, row: &str, found: &[(IpNet, Hop)], text: &str) {
     let mut left = found.iter();
     for words in text.split_terminator(',') {
-        let wanted = route(rt, words.trim());
-        row_is(rt, row, left.next().copied(), Some(wanted));
+        route_is(rt, row, left.next().copied(), words);
     }
     row_is(rt, row, left.next().copied(), None);
 }
@@ -64,10 +68,15 @@ pub(crate) fn pieces(rt: &impl Abort, alloc: Global, flat: Flat<'_>) -> Vec<(IpN
 pub(crate) fn table(rt: &impl Abort, alloc: Global, text: &str) -> RouteTable {
     let mut table = RouteTable::new(alloc).expect(rt, "a table");
     for words in text.split_terminator(',') {
-        let (net, hop) = route(rt, words.trim());
-        add(rt, &mut table, net, hop, words);
+        add_spelled(rt, &mut table, words);
     }
     table
+}
+
+/// The route that the words spell is added.
+fn add_spelled(rt: &impl Abort, table: &mut RouteTable, words: &str) {
+    let (net, hop) = route(rt, words.trim());
+    add(rt, table, net, hop, words);
 }
 
 /// A route with the default preference is added.
