@@ -36,11 +36,11 @@ fn numbers_of_hops(rt: HostRuntime) {
     assert_eq!(rt; Hop::Drop.number(), None);
 }
 
-/// A list takes eight bytes per choice, and nothing more.
+/// A list takes seven bytes per choice, and nothing more.
 #[test]
 fn bytes_of_choices(rt: HostRuntime) {
-    row_is(&rt, "eight", std::mem::size_of::<Choices<8>>(), 64);
-    row_is(&rt, "one", std::mem::size_of::<Choices<1>>(), 8);
+    row_is(&rt, "eight", std::mem::size_of::<Choices<8>>(), 56);
+    row_is(&rt, "one", std::mem::size_of::<Choices<1>>(), 7);
     row_is(&rt, "default", Hop::default(), Hop::Drop);
 }
 
