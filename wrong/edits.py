@@ -1,5 +1,6 @@
 """The edits that make wrong bodies, and the positions of the bodies in a text."""
 import functools
+import os
 import re
 import sys
 from pathlib import Path
@@ -93,16 +94,17 @@ def cycles_of(crate):
     files = {file: file.read_text() for file in sorted((CRATES / crate / "src").rglob("*.rt"))}
     module = {file: [it for it in file.relative_to(CRATES / crate / "src").with_suffix("").parts if it not in ("lib", "main")] for file in files}
     home = {it: module[file] for file, text in files.items() for it in re.findall(r"^(?:pub(?:\(crate\))? )?(?:struct|enum) (\w+)", text, re.M)}
-    cycles, folders = {}, {}
+    cycles = {}
     for file, text in files.items():
         type = None
         for it in re.finditer(r"^impl(?:<[^>]*>)? (\w+)|^\}()|^ *#\[cycle\((\w+)\)\]\n(?: *#.*\n)* *(?:pub(?:\(crate\))? )?fn (\w+)", text, re.M):
             type = it[1] if it[1] or it[2] is not None else type
             if it[3]:
-                above = home[type] if type else module[file]
-                folder = folders.setdefault(it[3], "/".join([crate, "proofs", *above, f"+{it[3]}"]))
-                cycles.setdefault(folder, set()).add("::".join([crate, *above, *([type] if type else []), it[4]]))
-    return cycles
+                above = [*home[type], type] if type else module[file]
+                cycles.setdefault(it[3], []).append((*above, it[4]))
+    # (the folder is that of the module, or of the type if all functions of the cycle are of one)
+    return {"/".join([crate, "proofs", *os.path.commonprefix([it[:-1] for it in functions]), f"+{name}"]):
+            {"::".join([crate, *it]) for it in functions} for name, functions in cycles.items()}
 
 
 TOKENS = re.compile(r"//[^\n]*|/\*.*?\*/|\"(?:\\.|[^\"\\])*\"|b?'(?:\\.[^']*|[^'\\])'|\bfn\s+\w+|\w+|\s+|.", re.S)
