@@ -1,23 +1,26 @@
 -- Ascending ranges, the cells that narrow a search in them, and the runs of a flat list.
-use Rattle.std.specs.Prelude.{◌≡◌, ◌==◌, ℕ, ◌+◌, ◌*◌, ◌/◌, ◌%◌, ◌-◌, ◌^◌, ◌<◌, ◌≤◌, ◌&&◌, nat_le, not, if◌then◌else◌, Bool, false, List, [], ◌∷◌, Option, Some, None, All, AllPairs, filter, length, map, slice_index, slice_index_or}
+use Rattle.std.specs.Prelude.{◌≡◌, ◌==◌, ℕ, ◌+◌, ◌*◌, ◌/◌, ◌%◌, ◌-◌, ◌^◌, ◌<◌, ◌≤◌, ◌&&◌, nat_le, not, if◌then◌else◌, Bool, false, List, [], ◌∷◌, Option, Some, None, All, AllPairs, drop, filter, length, map, slice_index, slice_index_or}
 use Rattle.ipnet_addr.specs.Addresses.{Family, same_family}
 use Rattle.ipnet_blocks.specs.Blocks.{first, last}
 use Rattle.route_laws.specs.Flats.{Piece}
 use Rattle.hop_index.specs.Ranges.{HopRange, hop_in}
 
--- a range as an index stores it: 2 ^ 32 - 1 stands for no hop, unless a mark says that it is the hop
+-- a range as an index stores it: the front of its last number; 2 ^ 32 - 1 stands for no hop, unless a mark says that it is the hop
 pub record StoredRange : Type 0 where
-  pub last : ℕ
+  pub front : ℕ
   pub hop : ℕ
 
 abbrev pub hop_of_mark : ℕ → Bool → Option ℕ
 hop_of_mark hop marked = if hop == 4294967295 && not marked then None else Some hop
 
--- the ranges with their marks; there are none for the last ranges if none of these has a mark
-abbrev pub marked_ranges : List StoredRange → List Bool → List HopRange
-marked_ranges [] marks = []
-marked_ranges (r ∷ rs) [] = record { last = r.last; hop = hop_of_mark r.hop false } ∷ marked_ranges rs []
-marked_ranges (r ∷ rs) (m ∷ marks) = record { last = r.last; hop = hop_of_mark r.hop m } ∷ marked_ranges rs marks
+-- a range with the bits after the front of its last number, and its mark
+abbrev pub whole_range : (ℕ → ℕ → ℕ) → StoredRange → ℕ → Bool → HopRange
+whole_range joined r rest marked = record { last = joined r.front rest; hop = hop_of_mark r.hop marked }
+
+-- the ranges with those bits and marks; ones and false stand for those after the ends of the lists
+abbrev pub ranges_of : (ℕ → ℕ → ℕ) → List StoredRange → List ℕ → List Bool → List HopRange
+ranges_of joined [] rests marks = []
+ranges_of joined (r ∷ rs) rests marks = whole_range joined r (slice_index_or rests 0 18446744073709551615) (slice_index_or marks 0 false) ∷ ranges_of joined rs (drop 1 rests) (drop 1 marks)
 
 -- no range ends below the range before it
 abbrev pub AreAscending : List HopRange → Type 0

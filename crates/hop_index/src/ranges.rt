@@ -10,10 +10,10 @@ use std::marker::Model;
 /// The number in place of no hop.
 const NO_HOP: u32 = u32::MAX;
 
-/// The last number of a range, and the hop of its numbers.
+/// The front of the last number of a range, and the hop of its numbers.
 #[derive(Drop)]
 struct Range<N: Stored> {
-    last: N,
+    front: N::Front,
     hop: u32,
 }
 
@@ -22,24 +22,24 @@ impl<N: Stored> Model for Range<N> {
 
     ghost Value = { StoredRange };
 
-    ghost view = { λ r. record { last = N.number r.last; hop = r.hop } };
+    ghost view = { λ r. record { front = N.Front.value r.front; hop = r.hop } };
 }
 
 impl<N: Stored> Range<N> {
-    /// The range up to this number.
+    /// The range up to a number with this front.
     #[inline]
-    fn of_last(last: N, hop: u32) -> Range<N>
-        ensures { result ≡ record { last = N.number last; hop = hop } }
+    fn new(front: N::Front, hop: u32) -> Range<N>
+        ensures { result ≡ record { front = N.Front.value front; hop = hop } }
     {
-        Range { last, hop }
+        Range { front, hop }
     }
 
-    /// The last number.
+    /// The front of the last number.
     #[inline]
-    fn last(&self) -> N
-        ensures { N.number result ≡ self.now.last }
+    fn front(&self) -> N::Front
+        ensures { N.Front.value result ≡ self.now.front }
     {
-        self.last
+        self.front
     }
 
     /// The hop, or the number in place of none.
@@ -51,15 +51,37 @@ impl<N: Stored> Range<N> {
     }
 }
 
-/// Whether there is a mark at this index.
+/// What is stored for the range at this index, or the usual value if there is nothing for it.
 #[inline]
-fn is_marked(marks: &[bool], place: usize) -> bool
-    ensures { result ≡ slice_index_or marks.now place false }
+fn stored_at<T: Copy>(stored: &[T], place: usize, usual: T) -> T
+    ensures { result ≡ slice_index_or stored.now place usual }
 {
-    match marks.get(place) {
-        Some(mark) => *mark,
-        None => false,
+    match stored.get(place) {
+        Some(value) => *value,
+        None => usual,
     }
+}
+
+/// Stores the value for the range at this index, unless it is the usual one. The indexes before it without a value get the usual one.
+fn store<T: Copy>(
+    stored: &mut Vec<T>,
+    place: usize,
+    usual: T,
+    value: T,
+    is_usual: bool,
+) -> Result<(), AllocError>
+    requires place { length stored.old.items ≤ place }
+    requires usual { IsTrue is_usual → value ≡ usual }
+    ensures all { length stored.new.items ≤ place + 1 }
+    ensures value { OnOk result (slice_index_or stored.new.items place usual ≡ value) }
+    ensures others { OnOk result ((k : ℕ) → k < place → slice_index_or stored.new.items k usual ≡ slice_index_or stored.old.items k usual) }
+{
+    if is_usual {
+        return Ok(());
+    }
+    stored.resize(place, usual)?;
+    stored.push(value)?;
+    Ok(())
 }
 
 /// Ranges, each from the number after the range before it.
@@ -68,6 +90,8 @@ fn is_marked(marks: &[bool], place: usize) -> bool
 #[derive(Drop)]
 pub(crate) struct Ranges<N: Stored> {
     ranges: Vec<Range<N>>,
+    /// The bits after the front of the last number. They are ones after the end of this list.
+    rests: Vec<u64>,
     /// Whether the number in place of no hop is the hop of the range. All ranges after the last mark have none.
     marks: Vec<bool>,
 }
@@ -75,13 +99,13 @@ pub(crate) struct Ranges<N: Stored> {
 impl<N: Stored> Model for Ranges<N> {
     ghost use Rattle.std.specs.Prelude.{◌≤◌, List, length};
     ghost use Rattle.hop_index.specs.Ranges.{HopRange};
-    ghost use Rattle.hop_index.specs.InnerRanges.{marked_ranges};
+    ghost use Rattle.hop_index.specs.InnerRanges.{ranges_of};
 
     ghost Value = { List HopRange };
 
-    ghost view = { λ r. marked_ranges r.ranges.items r.marks.items };
+    ghost view = { λ r. ranges_of N.joined r.ranges.items r.rests.items r.marks.items };
 
-    ghost invariant = { λ r. length r.marks.items ≤ length r.ranges.items };
+    ghost invariant = { λ r. (length r.rests.items ≤ length r.ranges.items) × (length r.marks.items ≤ length r.ranges.items) };
 }
 
 impl<N: Stored> Ranges<N> {
@@ -91,6 +115,7 @@ impl<N: Stored> Ranges<N> {
     {
         Ranges {
             ranges: Vec::new(alloc),
+            rests: Vec::new(alloc),
             marks: Vec::new(alloc),
         }
     }
@@ -109,7 +134,27 @@ impl<N: Stored> Ranges<N> {
         requires { place < length self.now }
         ensures { (d : HopRange) → N.number result ≡ (slice_index_or self.now place d).last }
     {
-        self.ranges[place].last()
+        let rest = stored_at(&self.rests, place, u64::MAX);
+        N::of_parts(self.ranges[place].front(), rest)
+    }
+
+    /// Whether the range at this index ends below the number, by the front of its last number alone.
+    #[inline]
+    fn is_before(&self, place: usize, number: N) -> bool
+        requires { place < length self.now }
+        ensures before { IsTrue result → (d : HopRange) → (slice_index_or self.now place d).last < N.number number }
+        ensures whole { IsTrue N.is_whole → result ≡ false → (d : HopRange) → N.number number ≤ (slice_index_or self.now place d).last }
+    {
+        number.is_above(self.ranges[place].front())
+    }
+
+    /// Whether the range at this index ends above the number, by the front of its last number alone.
+    #[inline]
+    fn is_after(&self, place: usize, number: N) -> bool
+        requires { place < length self.now }
+        ensures { IsTrue result → (d : HopRange) → N.number number < (slice_index_or self.now place d).last }
+    {
+        number.is_under(self.ranges[place].front())
     }
 
     /// The hop of the range at this index.
@@ -122,7 +167,7 @@ impl<N: Stored> Ranges<N> {
         if hop != NO_HOP {
             return Some(hop);
         }
-        if is_marked(&self.marks, place) {
+        if stored_at(&self.marks, place, false) {
             Some(hop)
         } else {
             None
@@ -133,16 +178,13 @@ impl<N: Stored> Ranges<N> {
     pub(crate) fn push(&mut self, last: N, hop: Option<u32>) -> Result<(), AllocError>
         ensures { OnOk result (self.new ≡ self.old ++ record { last = N.number last; hop = hop } ∷ []) }
     {
-        let Some(hop) = hop else {
-            self.ranges.push(Range::of_last(last, NO_HOP))?;
-            return Ok(());
-        };
         let place = self.ranges.len();
-        self.ranges.push(Range::of_last(last, hop))?;
-        if hop == NO_HOP {
-            self.marks.resize(place, false)?;
-            self.marks.push(true)?;
-        }
+        let rest = last.rest();
+        let mark = hop == Some(NO_HOP);
+        self.ranges
+            .push(Range::new(last.front(), hop.unwrap_or(NO_HOP)))?;
+        store(&mut self.rests, place, u64::MAX, rest, rest == u64::MAX)?;
+        store(&mut self.marks, place, false, mark, !mark)?;
         Ok(())
     }
 
@@ -167,11 +209,32 @@ impl<N: Stored> Ranges<N> {
         let low = low as usize;
         let mut count = low;
         for step in 0..4 {
-            if self.last(low + step).is_below(number) {
+            if self.is_before(low + step, number) {
                 count += 1;
             }
         }
-        count
+        if N::is_whole() || count == low + 4 {
+            return count;
+        }
+        if self.is_after(count, number) {
+            return count;
+        }
+        self.one_by_one(count, low + 4, number)
+    }
+
+    /// The number of ranges that end below the number, if that is at least `low` and at most `high`.
+    #[inline(never)]
+    fn one_by_one(&self, mut low: usize, high: usize, number: N) -> usize
+        requires low { EndsBelow self.now (N.number number) low }
+        requires high { EndsFrom self.now (N.number number) high }
+        requires ascending { AreAscending self.now }
+        ensures below { EndsBelow self.now (N.number number) result }
+        ensures from { EndsFrom self.now (N.number number) result }
+    {
+        while low < high && self.last(low).is_below(number) {
+            low += 1;
+        }
+        low
     }
 
     /// The number of ranges that end below the number, if that is at least `low` and at most `high`.

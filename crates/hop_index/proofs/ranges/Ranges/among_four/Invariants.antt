@@ -1,11 +1,10 @@
-use Rattle.std.proofs.Common.{◌≡◌, ◌+◌, ◌≤◌, ◌⊎◌}
+use Rattle.std.proofs.Common.{◌≡◌, ◌+◌, ◌≤◌, ◌⊎◌, IsTrue}
 use Rattle.hop_index.specs.InnerRanges.{EndsBelow, EndsFrom}
 use Rattle.hop_index.proofs.ranges.Ranges.among_four.Given as goal
 
 abbrev pub invariant-loop-step : goal.invariant-loop-step
 invariant-loop-step g l = record {
-  low : l.low ≤ l.count;
   high : l.count ≤ l.low + l.step;
   below : EndsBelow l.self (g.N.Stored.number l.number) l.count;
-  from : (l.count ≡ l.low + l.step) ⊎ EndsFrom l.self (g.N.Stored.number l.number) l.count;
+  from : IsTrue g.N.Stored.is_whole → (l.count ≡ l.low + l.step) ⊎ EndsFrom l.self (g.N.Stored.number l.number) l.count;
 }
