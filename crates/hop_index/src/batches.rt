@@ -1,10 +1,11 @@
 //! Lookups of many addresses, in steps, so that reads of memory for several addresses overlap.
-ghost use Rattle.std.specs.Prelude.{◌≡◌, ℕ, length, map};
+ghost use Rattle.std.specs.Prelude.{◌≡◌, ◌<◌, ◌≤◌, ℕ, length, map, slice_index_or};
 ghost use Rattle.ipnet_addr.specs.Addresses.{Address, Ipv4, address_of};
 ghost use Rattle.hop_index.specs.Indexes.{hop_of};
 ghost use Rattle.hop_index.specs.InnerNodes.{AllLead, index_of};
 
 use crate::index::Sides;
+use crate::nodes::{LEVELS, MARK};
 use ipnet::IpAddr;
 use ipnet_addr::bits::ipv4_of;
 
@@ -50,13 +51,56 @@ fn enter<A: Addressed>(sides: &Sides, addrs: &[A], entries: &mut [u32])
     }
 }
 
-/// The second step: the entry that nodes lead each address to.
-fn follow<A: Addressed>(sides: &Sides, addrs: &[A], entries: &mut [u32])
-    requires { AllLead sides.now.v4 sides.now.v6 A.address addrs.now entries.old }
+/// Stores all places.
+fn number(places: &mut [usize])
+    ensures all { length places.new ≡ length places.old }
+    ensures each { (k d : ℕ) → k < length places.new → slice_index_or places.new k d ≡ k }
+{
+    for place in 0..places.len() {
+        places[place] = place;
+    }
+}
+
+/// Keeps the places of entries that are nodes, and returns their number. No branch depends on an entry, since a processor can't predict it.
+fn keep_nodes(entries: &[u32], places: &mut [usize]) -> usize
+    requires { (k d : ℕ) → k < length places.old → slice_index_or places.old k d < length entries.now }
+    ensures all { length places.new ≡ length places.old }
+    ensures most { result ≤ length places.old }
+    ensures within { (k d : ℕ) → k < length places.new → slice_index_or places.new k d < length entries.now }
+{
+    let mut count = 0;
+    for at in 0..places.len() {
+        let place = places[at];
+        places[count] = place;
+        count += usize::from(entries[place] >= MARK);
+    }
+    count
+}
+
+/// The next entry of the addresses at these places.
+fn follow_at<A: Addressed>(sides: &Sides, addrs: &[A], entries: &mut [u32], places: &[usize])
+    requires entries { AllLead sides.now.v4 sides.now.v6 A.address addrs.now entries.old }
+    requires within { (k d : ℕ) → k < length places.now → slice_index_or places.now k d < length addrs.now }
     ensures { AllLead sides.now.v4 sides.now.v6 A.address addrs.now entries.new }
 {
-    for place in 0..addrs.len() {
-        entries[place] = sides.last_entry(entries[place], addrs[place].addr());
+    for at in 0..places.len() {
+        let place = places[at];
+        entries[place] = sides.inner_entry(entries[place], addrs[place].addr());
+    }
+}
+
+/// The second step: the entry that nodes lead each address to, level by level.
+fn follow<A: Addressed>(sides: &Sides, addrs: &[A], entries: &mut [u32])
+    requires few { length addrs.now ≤ 32 }
+    requires entries { AllLead sides.now.v4 sides.now.v6 A.address addrs.now entries.old }
+    ensures { AllLead sides.now.v4 sides.now.v6 A.address addrs.now entries.new }
+{
+    let mut places = [0; GROUP];
+    let mut count = addrs.len();
+    number(&mut places[..count]);
+    for _ in 0..LEVELS {
+        count = keep_nodes(entries, &mut places[..count]);
+        follow_at(sides, addrs, entries, &places[..count]);
     }
 }
 

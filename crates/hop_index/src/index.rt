@@ -57,6 +57,20 @@ impl Sides {
         }
     }
 
+    /// The entry of the address's cell of a node; if the entry is no node, the entry itself.
+    #[inline(always)]
+    pub(crate) fn inner_entry(&self, at: u32, addr: IpAddr) -> u32
+        requires { LeadsAddress self.now.v4 self.now.v6 (address_of addr) at }
+        ensures { LeadsAddress self.now.v4 self.now.v6 (address_of addr) result }
+    {
+        match addr {
+            IpAddr::V4(addr) => self.v4.inner_entry(at, u32::of_addr(addr)),
+            IpAddr::V6(addr) => self
+                .v6
+                .inner_entry(at, Halves::of_bits(u128::of_addr(addr))),
+        }
+    }
+
     /// The entry that nodes lead the address to from the entry `at`.
     #[inline(always)]
     pub(crate) fn last_entry(&self, at: u32, addr: IpAddr) -> u32

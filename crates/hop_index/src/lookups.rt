@@ -61,6 +61,16 @@ impl<N: Stored> Lookups<N> {
         self.cells[cell_at(&self.tops, number.head())]
     }
 
+    /// The entry of the number's cell of a node; if the entry is no node, the entry itself.
+    #[inline]
+    pub(crate) fn inner_entry(&self, entry: u32, number: N) -> u32
+        requires number { N.number number < 2 ^ N.width }
+        requires entry { Leads self.now.nodes self.now.ranges (N.number number) entry }
+        ensures { Leads self.now.nodes self.now.ranges (N.number number) result }
+    {
+        self.nodes.inner_entry(entry, number)
+    }
+
     /// The entry that nodes lead the number to.
     #[inline]
     pub(crate) fn last_entry(&self, entry: u32, number: N) -> u32

@@ -242,6 +242,21 @@ impl<N: Stored> Nodes<N> {
         Ok(entries)
     }
 
+    /// The entry of the number's cell of a node; if the entry is no node, the entry itself.
+    #[inline]
+    pub(crate) fn inner_entry(&self, entry: u32, number: N) -> u32
+        requires nodes { AreNodes self.now.ranges (2 ^ N.width) self.now.nodes.items self.now.cells.items }
+        requires number { N.number number < 2 ^ N.width }
+        requires entry { Leads self.now.nodes.items self.now.ranges (N.number number) entry }
+        ensures { Leads self.now.nodes.items self.now.ranges (N.number number) result }
+    {
+        if entry < MARK {
+            return entry;
+        }
+        let node = &self.nodes[(entry - MARK) as usize];
+        self.cells[node.place(number)]
+    }
+
     /// The entry that nodes lead a number to.
     #[inline]
     pub(crate) fn last_entry(&self, mut entry: u32, number: N) -> u32
@@ -254,8 +269,7 @@ impl<N: Stored> Nodes<N> {
             if entry < MARK {
                 return entry;
             }
-            let node = &self.nodes[(entry - MARK) as usize];
-            entry = self.cells[node.place(number)];
+            entry = self.inner_entry(entry, number);
         }
         entry
     }

@@ -57,7 +57,7 @@ pub(crate) trait Stored: Copy + Drop {
     fn front(self) -> Self::Front
         ensures { Self.Front.value result ≡ front_of (number self) };
 
-    /// Returns the bits after the front: 64 for IPv6. There are none for IPv4, and ones stand for them.
+    /// Returns the bits after the front, 64 for IPv6. IPv4 has none, and returns ones.
     fn rest(self) -> u64
         ensures { joined (front_of (number self)) result ≡ number self };
 

@@ -125,7 +125,7 @@ fn reads_fail(rt: &impl Abort, alloc: Global, run: (Mode, &str), calls: &str) {
     }
 }
 
-/// The same of the read after so many bytes.
+/// Lets the read after this many bytes fail, as `reads_fail` does.
 fn a_read_ends(rt: &impl Abort, alloc: Global, run: (Mode, &str), calls: &str, came: usize) {
     let reads = came.wrapping_add(1);
     let served = calls_until(calls, answered(run.0, run.1, came));
@@ -144,7 +144,7 @@ fn writes_fail(rt: &impl Abort, alloc: Global, run: (Mode, &str), calls: &str) {
     }
 }
 
-/// The same of the call after so many calls.
+/// Lets the call after this many calls fail, as `writes_fail` does.
 fn a_write_ends(rt: &impl Abort, alloc: Global, run: (Mode, &str), calls: &str, served: usize) {
     let done = first_calls(rt, calls, served);
     let end = End(Err(RunError::Write), reads_for(run.0, run.1, done), done);
@@ -312,7 +312,7 @@ fn a_write_fails(rt: HostRuntime) {
     }
 }
 
-/// Lets the writer's call of this number fail, with so many bytes for each call.
+/// Lets the call of the writer with this number fail. Each call takes this many bytes.
 fn a_write_breaks(
     rt: &impl Abort,
     alloc: Global,
