@@ -41,8 +41,8 @@ OTHERS = """Nanoseconds for one address by the same calls, in tables of other ki
 block. The last is the IPv4 feed with a network more inside each fifth of its networks, one to eight bits longer. Addresses are drawn
 from the networks, or anywhere from the block."""
 
-MADE = """Tables of one family each give these indexes in {made:.0f} ms together, {ratio:.3f} of the {lead:.2f} s in which `routes lead` loads
-the feed beside them, its output to a file."""
+MADE = """These indexes, each of a table of one family, are made in {made:.0f} ms together. That is {ratio:.3f} of the {lead:.2f} s in which
+`routes lead` loads the feed beside them, its output to a file."""
 
 TOGETHER = """{readers} threads look up addresses in one index at the same time on {cores} processors, 64 in a call, each by a handle of its own.
 By the clock they make {v4:.1f} times as many lookups as one thread for IPv4, and {v6:.1f} times as many for IPv6."""

@@ -2,15 +2,12 @@
 use Rattle.std.proofs.Common.{◌≡◌, ℕ, ◌+◌, ◌-◌, ◌*◌, ◌/◌, ◌%◌, ◌^◌, ◌<◌, ◌≤◌, ⊎_elim, List, [], ◌∷◌, ◌++◌, Option, Some, None, length, length-append, get_or, refl, sym, subst, arith}
 use Rattle.std.proofs.lemmas.Bool.{cases_lt}
 use Rattle.std.proofs.lemmas.List.{get_or_append_left, get_or-append-add, get_or_push}
-use Rattle.std.proofs.lemmas.Nat.{le-div, pow_pos}
-use Rattle.std.proofs.Math.Nat.{div-lt_iff_lt-mul, div-mul-le_self, mul-le-mul_right, mul-lt-mul_of_pos_right}
+use Rattle.std.proofs.lemmas.Nat.{pow_pos}
+use Rattle.std.proofs.Math.Nat.{div-lt_iff_lt-mul, mul-le-mul_right, mul-lt-mul_of_pos_right}
 use Rattle.hop_index.specs.Ranges.{HopRange}
 use Rattle.hop_index.specs.InnerRanges.{ArePadded, AreTops, EndsBelow, cell_of, head_of}
 use Rattle.hop_index.specs.InnerNodes.{AreEntries, AreNodes, IsBetween, Leads, StoredNode, cell_by, cell_in}
-use Rattle.hop_index.proofs.Searches.{before_pads, fewer_from}
-
-divided_ascends : (a b width : ℕ) → a ≤ b → a / 2 ^ width ≤ b / 2 ^ width
-divided_ascends a b width le = let m : a / 2 ^ width * 2 ^ width ≤ a = div-mul-le_self a (2 ^ width) in le-div (a / 2 ^ width) b (2 ^ width) (pow_pos width) (omega arith)
+use Rattle.hop_index.proofs.Searches.{before_pads, divided_ascends, fewer_from, head_ascends}
 
 -- the cell of a higher number is no lower in a node
 cell_in_ascends : (n : StoredNode) (x y : ℕ) → x ≤ y → cell_in n x ≤ cell_in n y
@@ -127,7 +124,7 @@ pub cell_by_ascends : (width : ℕ) (tops : Option (List ℕ)) → ((ts : List �
 cell_by_ascends width None are n x y le l = cell_in_ascends n x y le
 cell_by_ascends width (Some tops) are n x y le l =
     let head : head_of width y < 2 ^ 64 = (div-lt_iff_lt-mul {k = 2 ^ width} {x = y * 2 ^ 64} {y = 2 ^ 64} (pow_pos width)).1 (omega arith) in
-    cell_ascends tops (are tops refl) (head_of width x) (head_of width y) (divided_ascends (x * 2 ^ 64) (y * 2 ^ 64) width (omega arith)) head
+    cell_ascends tops (are tops refl) (head_of width x) (head_of width y) (head_ascends width x y le) head
 
 -- entries lead on the numbers of the first c cells of a node, in which its ranges up to `place` end
 pub record AreLed (width : ℕ) (tops : Option (List ℕ)) (n : StoredNode) (rs : List HopRange) (nodes : List StoredNode) (c place : ℕ) (entries : List ℕ) : Type 0 where

@@ -1,19 +1,20 @@
 -- The hops of an index of the ranges of a flat list.
-use Rattle.std.proofs.Common.{◌≡◌, ℕ, List, Option, Result, Ok, Err, IfOk, ◌∙◌}
-use Rattle.ipnet_addr.specs.Addresses.{Address, Family, IsAddress, Ipv4, Ipv6}
+use Rattle.std.proofs.Common.{◌≡◌, ℕ, ◌^◌, ◌<◌, List, Option, Result, Ok, Err, IfOk}
+use Rattle.ipnet_addr.specs.Addresses.{Address, Family, IsAddress, Ipv4, Ipv6, width}
 use Rattle.route_laws.specs.Flats.{Piece, IsFlat}
 use Rattle.hop_index.specs.Indexes.{Index, hop_of, ranges_of}
 use Rattle.hop_index.specs.Ranges.{hop_in}
-use Rattle.hop_index.specs.InnerRanges.{span_hop, spans_in}
-use Rattle.hop_index.proofs.Pieces.{same_hops}
 
-ranges_are : (i : Index) (ps : List Piece) → ((x : ℕ) → hop_in i.v4 x ≡ span_hop (spans_in Ipv4 ps) x) → ((x : ℕ) → hop_in i.v6 x ≡ span_hop (spans_in Ipv6 ps) x) → (f : Family) (x : ℕ) → hop_in (ranges_of f i) x ≡ span_hop (spans_in f ps) x
-ranges_are i ps v4 v6 Ipv4 = v4
-ranges_are i ps v4 v6 Ipv6 = v6
+-- the hop of each number of a family
+abbrev HasHops : (Address → Option ℕ) → Index → Family → Type 0
+HasHops h i f = (n : ℕ) → n < 2 ^ width f → hop_in (ranges_of f i) n ≡ h (record { family = f; number = n })
 
-pub index_hops : (i : Index) (ps : List Piece) → ((x : ℕ) → hop_in i.v4 x ≡ span_hop (spans_in Ipv4 ps) x) → ((x : ℕ) → hop_in i.v6 x ≡ span_hop (spans_in Ipv6 ps) x)
-    → (h : Address → Option ℕ) → IsFlat h ps → (x : Address) → IsAddress x → hop_of i x ≡ h x
-index_hops i ps v4 v6 h flat x a = ranges_are i ps v4 v6 x.family x.number ∙ same_hops h ps flat x a
+pub index_hops : (h : Address → Option ℕ) (i : Index) → HasHops h i Ipv4 → HasHops h i Ipv6 → (x : Address) → IsAddress x → hop_of i x ≡ h x
+index_hops h i v4 v6 x a = both x.family x.number a
+  where
+    both : (f : Family) → HasHops h i f
+    both Ipv4 = v4
+    both Ipv6 = v6
 
 -- the hops of the one function that has the flat list
 pub hops_of_flat : {E : Type 0} (r : Result Index E) (ps : List Piece) (h : Address → Option ℕ) → IsFlat h ps

@@ -3,19 +3,20 @@ use Rattle.std.proofs.Common.{◌≡◌, ◌==◌, ◌&&◌, not, ℕ, zero, suc
 use Rattle.std.proofs.lemmas.Bool.{false_from_ne_true}
 use Rattle.std.specs.Option.{option_eq}
 use Rattle.hop_index.specs.Ranges.{HopRange}
-use Rattle.hop_index.specs.InnerRanges.{StoredRange, hop_of_mark, ranges_of, whole_range}
+use Rattle.hop_index.specs.InnerRanges.{hop_of_mark, ranges_of, whole_range}
+use Rattle.hop_index.specs.declared.ranges.Range.{Range}
 
 -- the value of a list at an index behind its first one
 at_drop : {A : Type 0} (xs : List A) (k : ℕ) (d : A) → get_or (drop 1 xs) k d ≡ get_or xs (suc k) d
 at_drop [] k d = refl
 at_drop (x ∷ xs) k d = refl
 
-module _ (joined : ℕ → ℕ → ℕ) where
-  pub length_ranges : (rs : List StoredRange) (ls : List ℕ) (ms : List Bool) → length (ranges_of joined rs ls ms) ≡ length rs
+module _ {F : Type 0} (joined : F → ℕ → ℕ) where
+  pub length_ranges : (rs : List (Range F)) (ls : List ℕ) (ms : List Bool) → length (ranges_of joined rs ls ms) ≡ length rs
   length_ranges [] ls ms = refl
   length_ranges (r ∷ rs) ls ms = ap suc (length_ranges rs (drop 1 ls) (drop 1 ms))
 
-  at_range : (rs : List StoredRange) (ls : List ℕ) (ms : List Bool) (k : ℕ) (d : HopRange) (e : StoredRange) → k < length rs
+  at_range : (rs : List (Range F)) (ls : List ℕ) (ms : List Bool) (k : ℕ) (d : HopRange) (e : Range F) → k < length rs
       → get_or (ranges_of joined rs ls ms) k d ≡ whole_range joined (get_or rs k e) (get_or ls k 18446744073709551615) (get_or ms k false)
   at_range [] ls ms k d e l = absurd (omega arith)
   at_range (r ∷ rs) ls ms zero d e l = refl
@@ -25,7 +26,7 @@ module _ (joined : ℕ → ℕ → ℕ) where
       ∙ ap (λ m. whole_range joined (get_or rs k e) (get_or ls (suc k) 18446744073709551615) m) (at_drop ms k false))
 
   -- one more range, and what is stored for it
-  pub push_range : (rs : List StoredRange) (r : StoredRange) (ls more : List ℕ) (ms marks : List Bool) (x : ℕ) (m : Bool)
+  pub push_range : (rs : List (Range F)) (r : Range F) (ls more : List ℕ) (ms marks : List Bool) (x : ℕ) (m : Bool)
       → get_or more (length rs) 18446744073709551615 ≡ x → ((k : ℕ) → k < length rs → get_or more k 18446744073709551615 ≡ get_or ls k 18446744073709551615)
       → get_or marks (length rs) false ≡ m → ((k : ℕ) → k < length rs → get_or marks k false ≡ get_or ms k false)
       → ranges_of joined (rs ++ r ∷ []) more marks ≡ ranges_of joined rs ls ms ++ whole_range joined r x m ∷ []
@@ -39,14 +40,14 @@ module _ (joined : ℕ → ℕ → ℕ) where
       (at_drop marks (length rs) false ∙ f) (λ k l. at_drop marks k false ∙ kept (suc k) (omega arith) ∙ sym (at_drop ms k false))))
 
   -- the ranges v of a model
-  module _ (rs : List StoredRange) (ls : List ℕ) (ms : List Bool) (v : List HopRange) (is : ranges_of joined rs ls ms ≡ v) where
+  module _ (rs : List (Range F)) (ls : List ℕ) (ms : List Bool) (v : List HopRange) (is : ranges_of joined rs ls ms ≡ v) where
     pub as_many : length v ≡ length rs
     as_many = sym (ap (λ (xs : List HopRange). length xs) is) ∙ length_ranges rs ls ms
 
-    pub read : (k : ℕ) (d : HopRange) (e : StoredRange) → k < length v → e ≡ get_or rs k e → get_or v k d ≡ whole_range joined e (get_or ls k 18446744073709551615) (get_or ms k false)
+    pub read : (k : ℕ) (d : HopRange) (e : Range F) → k < length v → e ≡ get_or rs k e → get_or v k d ≡ whole_range joined e (get_or ls k 18446744073709551615) (get_or ms k false)
     read k d e l at =
         let n = as_many in
-        ap (λ (xs : List HopRange). get_or xs k d) (sym is) ∙ at_range rs ls ms k d e (omega arith) ∙ ap (λ (r : StoredRange). whole_range joined r (get_or ls k 18446744073709551615) (get_or ms k false)) (sym at)
+        ap (λ (xs : List HopRange). get_or xs k d) (sym is) ∙ at_range rs ls ms k d e (omega arith) ∙ ap (λ (r : Range F). whole_range joined r (get_or ls k 18446744073709551615) (get_or ms k false)) (sym at)
 
 -- a hop with a mark, and a hop that is not the number in place of none
 pub hop_marked : (h : ℕ) → hop_of_mark h true ≡ Some h

@@ -1,10 +1,12 @@
 -- How many of ascending ranges end below a number, and its hop.
-use Rattle.std.proofs.Common.{◌≡◌, ℕ, zero, suc, ◌+◌, ◌-◌, ◌<◌, ◌≤◌, ⊎_elim, Bool, true, false, cond, nat_le, List, [], ◌∷◌, ◌++◌, Option, None, length, length-append, get_or, refl, sym, ap, ◌∙◌, subst, arith}
+use Rattle.std.proofs.Common.{◌≡◌, ℕ, zero, suc, ◌+◌, ◌-◌, ◌*◌, ◌/◌, ◌^◌, ◌<◌, ◌≤◌, ⊎_elim, Bool, true, false, cond, nat_le, List, [], ◌∷◌, ◌++◌, Option, Some, None, length, length-append, get_or, refl, sym, ap, ◌∙◌, subst, arith}
 use Rattle.std.proofs.lemmas.Bool.{cases_lt}
 use Rattle.std.proofs.lemmas.Bool.Decides.{nat_tests}
+use Rattle.std.proofs.lemmas.Nat.{le-div, pow_pos}
+use Rattle.std.proofs.Math.Nat.{div-mul-le_self, pow-le-pow_right}
 use Rattle.std.proofs.lemmas.List.{append-nil, get_or_append_left, get_or_default, get_or_push}
 use Rattle.hop_index.specs.Ranges.{HopRange, hop_in}
-use Rattle.hop_index.specs.InnerRanges.{AreAscending, ArePadded, EndsBelow, EndsFrom}
+use Rattle.hop_index.specs.InnerRanges.{AreAscending, ArePadded, EndsBelow, EndsFrom, head_of}
 
 same_last : (rs : List HopRange) (m : ℕ) (d e : HopRange) → m < length rs → (get_or rs m d).last ≡ (get_or rs m e).last
 same_last rs m d e l = ap (λ (r : HopRange). r.last) (get_or_default rs m d e l)
@@ -26,6 +28,10 @@ ends_from rs y m d up m_in f = record {
 -- a later bound
 pub below_later : (rs : List HopRange) (y z i : ℕ) → y ≤ z → EndsBelow rs y i → EndsBelow rs z i
 below_later rs y z i le b = record { within = b.within; below = λ k d l. let f : (get_or rs k d).last < y = b.below k d l in omega arith }
+
+-- fewer ranges that end below
+pub fewer_below : (rs : List HopRange) (y i j : ℕ) → i ≤ j → EndsBelow rs y j → EndsBelow rs y i
+fewer_below rs y i j le b = let within = b.within in record { within = omega arith; below = λ k d l. b.below k d (omega arith) }
 
 -- an earlier start
 pub fewer_from : (rs : List HopRange) (y i j : ℕ) → i ≤ j → j ≤ length rs → EndsFrom rs y i → EndsFrom rs y j
@@ -61,6 +67,27 @@ found (r ∷ rs) (suc m) d x l b f =
     let b_in = b.within in
     ap (λ t. cond t r.hop (hop_in rs x)) test
     ∙ found rs m d x (omega arith) (record { within = omega arith; below = λ k e k_in. b.below (suc k) e (omega arith) }) (record { within = omega arith; from = λ k e le k_in. f.from (suc k) e (omega arith) (omega arith) })
+
+pub divided_ascends : (a b width : ℕ) → a ≤ b → a / 2 ^ width ≤ b / 2 ^ width
+divided_ascends a b width le = let m : a / 2 ^ width * 2 ^ width ≤ a = div-mul-le_self a (2 ^ width) in le-div (a / 2 ^ width) b (2 ^ width) (pow_pos width) (omega arith)
+
+-- numbers are ordered as their first 64 bits are, if these differ
+pub head_ascends : (width x y : ℕ) → x ≤ y → head_of width x ≤ head_of width y
+head_ascends width x y le = divided_ascends (x * 2 ^ 64) (y * 2 ^ 64) width (omega arith)
+
+pub below_by_head : (width x y : ℕ) → head_of width x < head_of width y → x < y
+below_by_head width x y l = ⊎_elim (λ less. less) (λ le. let u = head_ascends width y x le in absurd (omega arith)) (cases_lt x y)
+
+-- those of numbers of at most 64 bits differ
+pub from_head : (width x y : ℕ) → width ≤ 64 → head_of width x ≤ head_of width y → x ≤ y
+from_head width x y few le = ⊎_elim
+    (λ (less : y < x).
+    let m : head_of width y * 2 ^ width ≤ y * 2 ^ 64 = div-mul-le_self (y * 2 ^ 64) (2 ^ width) in
+    let p : 2 ^ width ≤ 2 ^ 64 = pow-le-pow_right (omega arith) few in
+    let h : head_of width y + 1 ≤ head_of width x = le-div (head_of width y + 1) (x * 2 ^ 64) (2 ^ width) (pow_pos width) (omega arith) in
+    absurd (omega arith))
+    (λ more. more)
+    (cases_lt y x)
 
 -- more ranges after all that end below x
 pub past : (rs ss : List HopRange) (x : ℕ) → EndsBelow rs x (length rs) → hop_in (rs ++ ss) x ≡ hop_in ss x
@@ -99,6 +126,21 @@ push_none [] y x = go (nat_le x y)
     go true = refl
     go false = refl
 push_none (r ∷ rs) y x = ap (λ o. cond (nat_le x r.last) r.hop o) (push_none rs y x)
+
+-- one more range with a hop, which begins after ranges that reach its first number
+module _ (rs : List HopRange) (first last k : ℕ) (below : EndsBelow rs first (length rs)) where
+  past_all : (x : ℕ) (b : Bool) → nat_le x last ≡ b → first ≤ x → hop_in (rs ++ record { last = last; hop = Some k } ∷ []) x ≡ cond b (Some k) None
+  past_all x b test le = past rs (record { last = last; hop = Some k } ∷ []) x (below_later rs first x (length rs) le below) ∙ ap (λ t. cond t (Some k) None) test
+
+  pub push_inside : (x : ℕ) → first ≤ x → x ≤ last → hop_in (rs ++ record { last = last; hop = Some k } ∷ []) x ≡ Some k
+  push_inside x from to = past_all x true (grind (arith, nat_tests)) from
+
+  pub push_outside : ((x : ℕ) → x < first → EndsBelow rs x (length rs) → ⊥) → (x : ℕ) → (first ≤ x → x ≤ last → ⊥) → hop_in (rs ++ record { last = last; hop = Some k } ∷ []) x ≡ hop_in rs x
+  push_outside to x out = ⊎_elim
+      (λ less. reached rs (record { last = last; hop = Some k } ∷ []) x (to x less))
+      (λ le. let more : last < x = ⊎_elim (λ l. l) (λ in_it. absurd (out le in_it)) (cases_lt last x) in
+      past_all x false (grind (arith, nat_tests)) le ∙ sym (none_past rs x (below_later rs first x (length rs) le below)))
+      (cases_lt x first)
 
 module _ (rs : List HopRange) (r : HopRange) where
   pub length_push : length (rs ++ r ∷ []) ≡ length rs + 1

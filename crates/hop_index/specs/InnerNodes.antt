@@ -63,3 +63,8 @@ LeadsAddress v4 v6 x entry = Leads (divided_of x.family v4 v6).nodes (divided_of
 pub record AllLead {A : Type 0} (v4 v6 : Divided) (address : A → Address) (addrs : List A) (entries : List ℕ) : Type 0 where
   pub all : length entries ≡ length addrs
   pub each : (k : ℕ) (a : A) (e : ℕ) → k < length addrs → LeadsAddress v4 v6 (address (slice_index_or addrs k a)) (slice_index_or entries k e)
+
+-- the first `count` of the places are those of some of `end` addresses
+pub record ArePlaces (end count : ℕ) (places : List ℕ) : Type 0 where
+  pub most : count ≤ length places
+  pub within : (k d : ℕ) → k < count → slice_index_or places k d < end

@@ -1,8 +1,8 @@
 //! Lookups of many addresses, in steps, so that reads of memory for several addresses overlap.
-ghost use Rattle.std.specs.Prelude.{◌≡◌, ◌<◌, ◌≤◌, ℕ, length, map, slice_index_or};
+ghost use Rattle.std.specs.Prelude.{◌≡◌, ℕ, ◌≤◌, Option, length, map};
 ghost use Rattle.ipnet_addr.specs.Addresses.{Address, Ipv4, address_of};
-ghost use Rattle.hop_index.specs.Indexes.{hop_of};
-ghost use Rattle.hop_index.specs.InnerNodes.{AllLead, index_of};
+ghost use Rattle.hop_index.specs.Indexes.{hop_number, hop_of};
+ghost use Rattle.hop_index.specs.InnerNodes.{AllLead, ArePlaces, index_of};
 
 use crate::index::Sides;
 use crate::nodes::{LEVELS, MARK};
@@ -41,6 +41,38 @@ impl Addressed for u32 {
     }
 }
 
+/// A form of a hop, or of none.
+pub trait FromHop: Copy {
+    /// The form of a hop, or of none.
+    ghost of_hop: { Option ℕ → Self };
+
+    /// Returns the form of a hop, or of none.
+    fn from_hop(hop: Option<u32>) -> Self
+        ensures { result ≡ of_hop hop };
+}
+
+impl FromHop for Option<u32> {
+    ghost of_hop = { λ hop. hop };
+
+    #[inline(always)]
+    fn from_hop(hop: Option<u32>) -> Option<u32> {
+        hop
+    }
+}
+
+/// The number of the hop, or 2^32 for none.
+impl FromHop for u64 {
+    ghost of_hop = { hop_number };
+
+    #[inline(always)]
+    fn from_hop(hop: Option<u32>) -> u64 {
+        match hop {
+            Some(hop) => u64::from(hop),
+            None => 1 << 32,
+        }
+    }
+}
+
 /// The first step: the entry of each address's cell.
 fn enter<A: Addressed>(sides: &Sides, addrs: &[A], entries: &mut [u32])
     requires { length entries.old ≡ length addrs.now }
@@ -51,26 +83,15 @@ fn enter<A: Addressed>(sides: &Sides, addrs: &[A], entries: &mut [u32])
     }
 }
 
-/// Stores all places.
-fn number(places: &mut [usize])
+/// Stores the places of entries that are nodes first, and returns their number. No branch depends on an entry, since a processor can't
+/// predict it. This is a loop of its own, since some processors read nothing more before they know the place of an earlier store.
+fn list_nodes(entries: &[u32], places: &mut [usize]) -> usize
+    requires { length places.old ≡ length entries.now }
     ensures all { length places.new ≡ length places.old }
-    ensures each { (k d : ℕ) → k < length places.new → slice_index_or places.new k d ≡ k }
-{
-    for place in 0..places.len() {
-        places[place] = place;
-    }
-}
-
-/// Keeps the places of entries that are nodes, and returns their number. No branch depends on an entry, since a processor can't predict it.
-fn keep_nodes(entries: &[u32], places: &mut [usize]) -> usize
-    requires { (k d : ℕ) → k < length places.old → slice_index_or places.old k d < length entries.now }
-    ensures all { length places.new ≡ length places.old }
-    ensures most { result ≤ length places.old }
-    ensures within { (k d : ℕ) → k < length places.new → slice_index_or places.new k d < length entries.now }
+    ensures places { ArePlaces (length entries.now) result places.new }
 {
     let mut count = 0;
-    for at in 0..places.len() {
-        let place = places[at];
+    for place in 0..entries.len() {
         places[count] = place;
         count += usize::from(entries[place] >= MARK);
     }
@@ -78,9 +99,9 @@ fn keep_nodes(entries: &[u32], places: &mut [usize]) -> usize
 }
 
 /// The next entry of the addresses at these places.
-fn follow_at<A: Addressed>(sides: &Sides, addrs: &[A], entries: &mut [u32], places: &[usize])
+fn follow<A: Addressed>(sides: &Sides, addrs: &[A], entries: &mut [u32], places: &[usize])
     requires entries { AllLead sides.now.v4 sides.now.v6 A.address addrs.now entries.old }
-    requires within { (k d : ℕ) → k < length places.now → slice_index_or places.now k d < length addrs.now }
+    requires places { ArePlaces (length addrs.now) (length places.now) places.now }
     ensures { AllLead sides.now.v4 sides.now.v6 A.address addrs.now entries.new }
 {
     for at in 0..places.len() {
@@ -89,36 +110,37 @@ fn follow_at<A: Addressed>(sides: &Sides, addrs: &[A], entries: &mut [u32], plac
     }
 }
 
-/// The second step: the entry that nodes lead each address to, level by level.
-fn follow<A: Addressed>(sides: &Sides, addrs: &[A], entries: &mut [u32])
+/// The second step, level by level: the entry that nodes lead each address to.
+fn lead<A: Addressed>(sides: &Sides, addrs: &[A], entries: &mut [u32])
     requires few { length addrs.now ≤ 32 }
     requires entries { AllLead sides.now.v4 sides.now.v6 A.address addrs.now entries.old }
     ensures { AllLead sides.now.v4 sides.now.v6 A.address addrs.now entries.new }
 {
     let mut places = [0; GROUP];
-    let mut count = addrs.len();
-    number(&mut places[..count]);
     for _ in 0..LEVELS {
-        count = keep_nodes(entries, &mut places[..count]);
-        follow_at(sides, addrs, entries, &places[..count]);
+        let count = list_nodes(entries, &mut places[..addrs.len()]);
+        if count == 0 {
+            break;
+        }
+        follow(sides, addrs, entries, &places[..count]);
     }
 }
 
 /// The third step: the hop of each address, from its entry.
-fn find<A: Addressed>(sides: &Sides, addrs: &[A], entries: &[u32], hops: &mut [Option<u32>])
+fn find<A: Addressed, H: FromHop>(sides: &Sides, addrs: &[A], entries: &[u32], hops: &mut [H])
     requires entries { AllLead sides.now.v4 sides.now.v6 A.address addrs.now entries.now }
     requires hops { length hops.old ≡ length addrs.now }
-    ensures { hops.new ≡ map (λ addr. hop_of (index_of sides.now.v4 sides.now.v6) (A.address addr)) addrs.now }
+    ensures { hops.new ≡ map (λ addr. H.of_hop (hop_of (index_of sides.now.v4 sides.now.v6) (A.address addr))) addrs.now }
 {
     for place in 0..addrs.len() {
-        hops[place] = sides.hop(entries[place], addrs[place].addr());
+        hops[place] = H::from_hop(sides.hop(entries[place], addrs[place].addr()));
     }
 }
 
 /// Stores the hops of all addresses, group by group.
-pub(crate) fn store_all<A: Addressed>(sides: &Sides, addrs: &[A], hops: &mut [Option<u32>])
+pub(crate) fn store_all<A: Addressed, H: FromHop>(sides: &Sides, addrs: &[A], hops: &mut [H])
     requires { length hops.old ≡ length addrs.now }
-    ensures { hops.new ≡ map (λ addr. hop_of (index_of sides.now.v4 sides.now.v6) (A.address addr)) addrs.now }
+    ensures { hops.new ≡ map (λ addr. H.of_hop (hop_of (index_of sides.now.v4 sides.now.v6) (A.address addr))) addrs.now }
 {
     let mut entries = [0; GROUP];
     let mut place = 0;
@@ -127,7 +149,7 @@ pub(crate) fn store_all<A: Addressed>(sides: &Sides, addrs: &[A], hops: &mut [Op
         let group = &addrs[place..end];
         let entries = &mut entries[..group.len()];
         enter(sides, group, entries);
-        follow(sides, group, entries);
+        lead(sides, group, entries);
         find(sides, group, entries, &mut hops[place..end]);
         place = end;
     }

@@ -15,7 +15,7 @@ fn after_chunk<N: Stored>(ranges: &Ranges<N>, mut place: usize, chunk: u64) -> u
     ensures least { place ≤ result }
     ensures most { result ≤ length ranges.now }
 {
-    while place < ranges.len() && ranges.last(place).head() >> 48 <= chunk {
+    while place < ranges.len() && ranges.head(place) >> 48 <= chunk {
         place += 1;
     }
     place

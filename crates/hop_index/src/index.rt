@@ -7,12 +7,11 @@ ghost use Rattle.route_laws.specs.Tables.{hop_at};
 ghost use Rattle.prefix_trie.specs.declared.refused.Refused.TheVariants.{Memory};
 ghost use Rattle.hop_index.specs.Indexes.{hop_of};
 ghost use Rattle.hop_index.specs.InnerNodes.{LeadsAddress, index_of};
-ghost use Rattle.hop_index.specs.InnerRanges.{AreRangesOf, spans_in};
+ghost use Rattle.hop_index.specs.InnerRanges.{AreRangesOf};
 
-use crate::batches::{Addressed, store_all};
+use crate::batches::{Addressed, FromHop, store_all};
 use crate::lookups::Lookups;
 use crate::ranges::Ranges;
-use crate::stored::{Halves, Stored};
 use ipnet::IpAddr;
 use ipnet_addr::number::AddressInt;
 use prefix_trie::Refused;
@@ -21,10 +20,10 @@ use std::alloc::{AllocError, Global};
 use std::marker::Model;
 
 /// The ranges of the runs of a flat list: those of IPv4, and those of IPv6.
-fn ranges(alloc: Global, mut flat: Flat<'_>) -> Result<(Ranges<u32>, Ranges<Halves>), AllocError>
+fn ranges(alloc: Global, mut flat: Flat<'_>) -> Result<(Ranges<u32>, Ranges<u128>), AllocError>
     requires { (h : Address → Option ℕ) × IsFlat h flat }
-    ensures ipv4 { IfOk result (λ r. AreRangesOf (spans_in Ipv4 flat.entry) (2 ^ 32) r.0) }
-    ensures ipv6 { IfOk result (λ r. AreRangesOf (spans_in Ipv6 flat.entry) (2 ^ 128) r.1) }
+    ensures ipv4 { IfOk result (λ r. AreRangesOf flat.entry Ipv4 r.0) }
+    ensures ipv6 { IfOk result (λ r. AreRangesOf flat.entry Ipv6 r.1) }
 {
     let mut v4 = Ranges::new(alloc);
     let mut v6 = Ranges::new(alloc);
@@ -41,7 +40,7 @@ fn ranges(alloc: Global, mut flat: Flat<'_>) -> Result<(Ranges<u32>, Ranges<Halv
 #[derive(Drop)]
 pub(crate) struct Sides {
     v4: Lookups<u32>,
-    v6: Lookups<Halves>,
+    v6: Lookups<u128>,
 }
 
 impl Sides {
@@ -53,7 +52,7 @@ impl Sides {
     {
         match addr {
             IpAddr::V4(addr) => self.v4.entry(u32::of_addr(addr)),
-            IpAddr::V6(addr) => self.v6.entry(Halves::of_bits(u128::of_addr(addr))),
+            IpAddr::V6(addr) => self.v6.entry(u128::of_addr(addr)),
         }
     }
 
@@ -65,21 +64,7 @@ impl Sides {
     {
         match addr {
             IpAddr::V4(addr) => self.v4.inner_entry(at, u32::of_addr(addr)),
-            IpAddr::V6(addr) => self
-                .v6
-                .inner_entry(at, Halves::of_bits(u128::of_addr(addr))),
-        }
-    }
-
-    /// The entry that nodes lead the address to from the entry `at`.
-    #[inline(always)]
-    pub(crate) fn last_entry(&self, at: u32, addr: IpAddr) -> u32
-        requires { LeadsAddress self.now.v4 self.now.v6 (address_of addr) at }
-        ensures { LeadsAddress self.now.v4 self.now.v6 (address_of addr) result }
-    {
-        match addr {
-            IpAddr::V4(addr) => self.v4.last_entry(at, u32::of_addr(addr)),
-            IpAddr::V6(addr) => self.v6.last_entry(at, Halves::of_bits(u128::of_addr(addr))),
+            IpAddr::V6(addr) => self.v6.inner_entry(at, u128::of_addr(addr)),
         }
     }
 
@@ -91,7 +76,7 @@ impl Sides {
     {
         match addr {
             IpAddr::V4(addr) => self.v4.hop(entry, u32::of_addr(addr)),
-            IpAddr::V6(addr) => self.v6.hop(entry, Halves::of_bits(u128::of_addr(addr))),
+            IpAddr::V6(addr) => self.v6.hop(entry, u128::of_addr(addr)),
         }
     }
 }
@@ -188,8 +173,10 @@ impl HopIndex {
         ensures hop { result ≡ hop_of self.now (address_of addr) }
         ensures address { IsAddress (address_of addr) }
     {
-        let entry = self.sides.last_entry(self.sides.entry(addr), addr);
-        self.sides.hop(entry, addr)
+        match addr {
+            IpAddr::V4(addr) => self.sides.v4.find(u32::of_addr(addr)),
+            IpAddr::V6(addr) => self.sides.v6.find(u128::of_addr(addr)),
+        }
     }
 
     /// Stores the hops of the addresses in `hops`, in the same order; both slices must have the same length. Does not allocate.
@@ -210,7 +197,7 @@ impl HopIndex {
         store_all(&self.sides, addrs, hops);
     }
 
-    /// Stores the hops of addresses in a form of their own, such as IPv4 addresses as `u32`. Else as `hops`.
+    /// Stores the hops of addresses, both in forms of their own, such as IPv4 addresses as `u32` and hops as `u64`. Else as `hops`.
     ///
     /// # Examples
     /// If 10.0.0.0/9 has the hop 2, and 11.0.0.0/8 none:
@@ -220,10 +207,13 @@ impl HopIndex {
     /// let mut hops = [None; 2];
     /// index.hops_of(&addrs, &mut hops);
     /// assert_eq!(rt; hops, [Some(2), None]);
+    /// let mut numbers = [0_u64; 2];
+    /// index.hops_of(&addrs, &mut numbers);
+    /// assert_eq!(rt; numbers, [2, 1 << 32]);
     /// ```
-    pub fn hops_of<A: Addressed>(&self, addrs: &[A], hops: &mut [Option<u32>])
+    pub fn hops_of<A: Addressed, H: FromHop>(&self, addrs: &[A], hops: &mut [H])
         requires { length hops.old ≡ length addrs.now }
-        ensures { hops.new ≡ map (λ addr. hop_of self.now (A.address addr)) addrs.now }
+        ensures { hops.new ≡ map (λ addr. H.of_hop (hop_of self.now (A.address addr))) addrs.now }
     {
         store_all(&self.sides, addrs, hops);
     }

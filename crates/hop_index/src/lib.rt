@@ -1,7 +1,7 @@
 //! A lookup table of the hops of addresses, compiled from a route table.
 #![tactic(auto)]
 
-pub use batches::Addressed;
+pub use batches::{Addressed, FromHop};
 pub use index::HopIndex;
 pub use prefix_trie::Refused;
 

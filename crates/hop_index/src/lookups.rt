@@ -71,16 +71,6 @@ impl<N: Stored> Lookups<N> {
         self.nodes.inner_entry(entry, number)
     }
 
-    /// The entry that nodes lead the number to.
-    #[inline]
-    pub(crate) fn last_entry(&self, entry: u32, number: N) -> u32
-        requires number { N.number number < 2 ^ N.width }
-        requires entry { Leads self.now.nodes self.now.ranges (N.number number) entry }
-        ensures { Leads self.now.nodes self.now.ranges (N.number number) result }
-    {
-        self.nodes.last_entry(entry, number)
-    }
-
     /// The hop of the number, from its entry.
     #[inline(always)]
     pub(crate) fn hop(&self, entry: u32, number: N) -> Option<u32>
@@ -89,5 +79,18 @@ impl<N: Stored> Lookups<N> {
         ensures { result ≡ hop_in self.now.ranges (N.number number) }
     {
         self.nodes.ranges.hop(self.nodes.ended(entry, number))
+    }
+
+    /// The hop of the number.
+    #[inline(always)]
+    pub(crate) fn find(&self, number: N) -> Option<u32>
+        ensures hop { result ≡ hop_in self.now.ranges (N.number number) }
+        ensures number { N.number number < 2 ^ N.width }
+    {
+        let mut entry = self.entry(number);
+        for _ in 0..LEVELS {
+            entry = self.inner_entry(entry, number);
+        }
+        self.hop(entry, number)
     }
 }

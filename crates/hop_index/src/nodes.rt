@@ -6,7 +6,7 @@ ghost use Rattle.hop_index.specs.InnerNodes.{AreEntries, AreNodes, IsBetween, Le
 
 use crate::cells::cell_at;
 use crate::ranges::Ranges;
-use crate::stored::Stored;
+use crate::stored::{Stored, highest};
 use std::alloc::{AllocError, Global};
 use std::marker::Model;
 
@@ -203,7 +203,7 @@ impl<N: Stored> Nodes<N> {
         self.add(node, &[own])
     }
 
-    /// The entries of the cells of a node, which are those of all chunks if there are tops. At most so many levels of nodes are below.
+    /// The entries of the cells of a node, which are those of all chunks if there are tops. Below it are at most `levels` levels of nodes.
     pub(crate) fn entries(
         &mut self,
         alloc: Global,
@@ -222,7 +222,7 @@ impl<N: Stored> Nodes<N> {
         ensures kept { OnOk result ((x entry : ℕ) → Leads self.old.nodes.items self.old.ranges x entry → Leads self.new.nodes.items self.old.ranges x entry) }
         ensures entries { IfOk result (λ es. AreEntries (cell_by N.width (option_copied tops.entry) node.now) (2 ^ N.width) self.new.nodes.items self.old.ranges node.now.before node.now.after es.items) }
     {
-        let end = node.cell_by(tops, N::highest()) + 1;
+        let end = node.cell_by(tops, highest()) + 1;
         let mut entries = Vec::with_capacity(alloc, end)?;
         let mut place = node.bounds().0;
         for cell in 0..end {
@@ -255,23 +255,6 @@ impl<N: Stored> Nodes<N> {
         }
         let node = &self.nodes[(entry - MARK) as usize];
         self.cells[node.place(number)]
-    }
-
-    /// The entry that nodes lead a number to.
-    #[inline]
-    pub(crate) fn last_entry(&self, mut entry: u32, number: N) -> u32
-        requires nodes { AreNodes self.now.ranges (2 ^ N.width) self.now.nodes.items self.now.cells.items }
-        requires number { N.number number < 2 ^ N.width }
-        requires entry { Leads self.now.nodes.items self.now.ranges (N.number number) entry }
-        ensures { Leads self.now.nodes.items self.now.ranges (N.number number) result }
-    {
-        for _ in 0..LEVELS {
-            if entry < MARK {
-                return entry;
-            }
-            entry = self.inner_entry(entry, number);
-        }
-        entry
     }
 
     /// The number of ranges that end below a number, from its entry.

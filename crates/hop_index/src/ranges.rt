@@ -1,9 +1,9 @@
 //! The ranges of one hop, or of none, that the addresses of a family fall into.
-ghost use Rattle.std.specs.Prelude.{◌≡◌, ℕ, ◌+◌, ◌-◌, ◌^◌, ◌<◌, ◌≤◌, ◌↔◌, ◌++◌, [], ◌∷◌, Option, Some, None, IsTrue, OnOk, false, length, nat_le, slice_index_or, if◌then◌else◌};
+ghost use Rattle.std.specs.Prelude.{◌≡◌, ℕ, ◌+◌, ◌-◌, ◌^◌, ◌<◌, ◌≤◌, ◌↔◌, ◌++◌, [], ◌∷◌, Option, Some, None, IsTrue, OnOk, length, slice_index_or};
 ghost use Rattle.hop_index.specs.Ranges.{HopRange, hop_in};
-ghost use Rattle.hop_index.specs.InnerRanges.{AreAscending, ArePadded, EndsBelow, EndsFrom, is_in};
+ghost use Rattle.hop_index.specs.InnerRanges.{AreAscending, ArePadded, EndsBelow, EndsFrom, head_of};
 
-use crate::stored::Stored;
+use crate::stored::{Stored, highest};
 use std::alloc::{AllocError, Global};
 use std::marker::Model;
 
@@ -11,44 +11,10 @@ use std::marker::Model;
 const NO_HOP: u32 = u32::MAX;
 
 /// The front of the last number of a range, and the hop of its numbers.
-#[derive(Drop)]
-struct Range<N: Stored> {
-    front: N::Front,
+#[derive(Clone, Copy)]
+struct Range<F> {
+    front: F,
     hop: u32,
-}
-
-impl<N: Stored> Model for Range<N> {
-    ghost use Rattle.hop_index.specs.InnerRanges.{StoredRange};
-
-    ghost Value = { StoredRange };
-
-    ghost view = { λ r. record { front = N.Front.value r.front; hop = r.hop } };
-}
-
-impl<N: Stored> Range<N> {
-    /// The range up to a number with this front.
-    #[inline]
-    fn new(front: N::Front, hop: u32) -> Range<N>
-        ensures { result ≡ record { front = N.Front.value front; hop = hop } }
-    {
-        Range { front, hop }
-    }
-
-    /// The front of the last number.
-    #[inline]
-    fn front(&self) -> N::Front
-        ensures { N.Front.value result ≡ self.now.front }
-    {
-        self.front
-    }
-
-    /// The hop, or the number in place of none.
-    #[inline]
-    fn hop(&self) -> u32
-        ensures { result ≡ self.now.hop }
-    {
-        self.hop
-    }
 }
 
 /// What is stored for the range at this index, or the usual value if there is nothing for it.
@@ -89,7 +55,7 @@ fn store<T: Copy>(
 /// Contracts see the last number and the hop of each range.
 #[derive(Drop)]
 pub(crate) struct Ranges<N: Stored> {
-    ranges: Vec<Range<N>>,
+    ranges: Vec<Range<N::Front>>,
     /// The bits after the front of the last number. They are ones after the end of this list.
     rests: Vec<u64>,
     /// Whether the number in place of no hop is the hop of the range. All ranges after the last mark have none.
@@ -135,26 +101,16 @@ impl<N: Stored> Ranges<N> {
         ensures { (d : HopRange) → N.number result ≡ (slice_index_or self.now place d).last }
     {
         let rest = stored_at(&self.rests, place, u64::MAX);
-        N::of_parts(self.ranges[place].front(), rest)
+        N::of_parts(self.ranges[place].front, rest)
     }
 
-    /// Whether the range at this index ends below the number, by the front of its last number alone.
+    /// The first 64 bits of the last number of the range at this index.
     #[inline]
-    fn is_before(&self, place: usize, number: N) -> bool
+    pub(crate) fn head(&self, place: usize) -> u64
         requires { place < length self.now }
-        ensures before { IsTrue result → (d : HopRange) → (slice_index_or self.now place d).last < N.number number }
-        ensures whole { IsTrue N.is_whole → result ≡ false → (d : HopRange) → N.number number ≤ (slice_index_or self.now place d).last }
+        ensures { (d : HopRange) → result ≡ head_of N.width (slice_index_or self.now place d).last }
     {
-        number.is_above(self.ranges[place].front())
-    }
-
-    /// Whether the range at this index ends above the number, by the front of its last number alone.
-    #[inline]
-    fn is_after(&self, place: usize, number: N) -> bool
-        requires { place < length self.now }
-        ensures { IsTrue result → (d : HopRange) → N.number number < (slice_index_or self.now place d).last }
-    {
-        number.is_under(self.ranges[place].front())
+        N::head_at(self.ranges[place].front)
     }
 
     /// The hop of the range at this index.
@@ -163,7 +119,7 @@ impl<N: Stored> Ranges<N> {
         requires { place < length self.now }
         ensures { (d : HopRange) → result ≡ (slice_index_or self.now place d).hop }
     {
-        let hop = self.ranges[place].hop();
+        let hop = self.ranges[place].hop;
         if hop != NO_HOP {
             return Some(hop);
         }
@@ -179,10 +135,10 @@ impl<N: Stored> Ranges<N> {
         ensures { OnOk result (self.new ≡ self.old ++ record { last = N.number last; hop = hop } ∷ []) }
     {
         let place = self.ranges.len();
-        let rest = last.rest();
+        let (front, rest) = last.parts();
         let mark = hop == Some(NO_HOP);
-        self.ranges
-            .push(Range::new(last.front(), hop.unwrap_or(NO_HOP)))?;
+        let hop = hop.unwrap_or(NO_HOP);
+        self.ranges.push(Range { front, hop })?;
         store(&mut self.rests, place, u64::MAX, rest, rest == u64::MAX)?;
         store(&mut self.marks, place, false, mark, !mark)?;
         Ok(())
@@ -194,7 +150,7 @@ impl<N: Stored> Ranges<N> {
         ensures { IsTrue result ↔ EndsBelow self.now (N.number number) (length self.now) }
     {
         let end = self.len();
-        end == 0 || self.last(end - 1).is_below(number)
+        end == 0 || self.last(end - 1).to_bits() < number.to_bits()
     }
 
     /// The number of ranges that end below the number, if that is at least `low` and at most `low + 4`.
@@ -207,34 +163,17 @@ impl<N: Stored> Ranges<N> {
         ensures from { EndsFrom self.now (N.number number) result }
     {
         let low = low as usize;
+        let head = number.head();
         let mut count = low;
         for step in 0..4 {
-            if self.is_before(low + step, number) {
+            if self.head(low + step) < head {
                 count += 1;
             }
         }
-        if N::is_whole() || count == low + 4 {
+        if N::width() <= 64 || count == low + 4 || head < self.head(count) {
             return count;
         }
-        if self.is_after(count, number) {
-            return count;
-        }
-        self.one_by_one(count, low + 4, number)
-    }
-
-    /// The number of ranges that end below the number, if that is at least `low` and at most `high`.
-    #[inline(never)]
-    fn one_by_one(&self, mut low: usize, high: usize, number: N) -> usize
-        requires low { EndsBelow self.now (N.number number) low }
-        requires high { EndsFrom self.now (N.number number) high }
-        requires ascending { AreAscending self.now }
-        ensures below { EndsBelow self.now (N.number number) result }
-        ensures from { EndsFrom self.now (N.number number) result }
-    {
-        while low < high && self.last(low).is_below(number) {
-            low += 1;
-        }
-        low
+        self.by_halves(count, low + 4, number)
     }
 
     /// The number of ranges that end below the number, if that is at least `low` and at most `high`.
@@ -247,7 +186,7 @@ impl<N: Stored> Ranges<N> {
     {
         while low < high {
             let middle = low + (high - low) / 2;
-            if self.last(middle).is_below(number) {
+            if self.last(middle).to_bits() < number.to_bits() {
                 low = middle + 1;
             } else {
                 high = middle;
@@ -269,7 +208,7 @@ impl<N: Stored> Ranges<N> {
         if number == 0 {
             return Ok(());
         }
-        let before = N::of_bits(number - 1);
+        let before = N::from_bits(number - 1);
         if !self.end_below(before) {
             return Ok(());
         }
@@ -286,10 +225,11 @@ impl<N: Stored> Ranges<N> {
         ensures ascending { OnOk result (AreAscending self.new) }
         ensures below { OnOk result (EndsBelow self.new (last + 1) (length self.new)) }
         ensures within { OnOk result (EndsBelow self.new (2 ^ N.width) (length self.new)) }
-        ensures hops { OnOk result ((x : ℕ) → hop_in self.new x ≡ (if is_in x (record { first = first; last = last; hop = hop }) then Some hop else hop_in self.old x)) }
+        ensures inside { OnOk result ((x : ℕ) → first ≤ x → x ≤ last → hop_in self.new x ≡ Some hop) }
+        ensures outside { OnOk result ((x : ℕ) → (first ≤ x → x ≤ last → ⊥) → hop_in self.new x ≡ hop_in self.old x) }
     {
         self.reach(first)?;
-        self.push(N::of_bits(last), Some(hop))?;
+        self.push(N::from_bits(last), Some(hop))?;
         Ok(())
     }
 
@@ -301,7 +241,7 @@ impl<N: Stored> Ranges<N> {
         ensures hops { OnOk result ((x : ℕ) → hop_in self.new x ≡ hop_in self.old x) }
     {
         for _ in 0..4_usize {
-            self.push(N::highest(), None)?;
+            self.push(highest(), None)?;
         }
         Ok(())
     }

@@ -1,132 +1,59 @@
 //! The numbers of addresses as an index stores them. A range stores 4 bytes of a number for IPv4, and mostly 8 for IPv6.
-ghost use Rattle.std.specs.Prelude.{◌≡◌, ℕ, ◌+◌, ◌*◌, ◌/◌, ◌%◌, ◌-◌, ◌^◌, ◌<◌, ◌≤◌, ◌↔◌, Bool, false, true, IsTrue, min};
+ghost use Rattle.std.specs.Prelude.{◌≡◌, ℕ, ◌+◌, ◌*◌, ◌/◌, ◌%◌, ◌-◌, ◌^◌, ◌<◌, min};
 ghost use Rattle.hop_index.specs.InnerRanges.{head_of};
 
-/// The front of a number as a range stores it: `u32` for IPv4, `Words` for IPv6.
-pub(crate) trait Front: Copy + Drop {
-    /// The number that its bits form.
-    ghost value: { Self → ℕ };
-}
+use ipnet_addr::key::Key;
 
-impl Front for u32 {
-    ghost value = { λ x. x };
-}
-
-/// The first 64 bits of a number in two words, so that they take no padding beside a hop.
-#[derive(Clone, Copy)]
-pub(crate) struct Words {
-    low: u32,
-    high: u32,
-}
-
-impl Front for Words {
-    ghost value = { λ x. x.high * 2 ^ 32 + x.low };
-}
-
-impl Words {
-    /// The number of the bits.
-    #[inline]
-    fn value(self) -> u64
-        ensures { result ≡ self.high * 2 ^ 32 + self.low }
-    {
-        (u64::from(self.high) << 32) + u64::from(self.low)
-    }
-}
-
-/// The number of an address of one family: `u32` for IPv4, `Halves` for IPv6.
-pub(crate) trait Stored: Copy + Drop {
-    /// The first bits of a number.
-    type Front: Front;
-
-    /// The number of bits.
-    ghost width: { ℕ };
-
-    /// The number.
-    ghost number: { Self → ℕ };
-
-    /// The front of a number.
-    ghost front_of: { ℕ → ℕ };
+/// The number of an address of one family: `u32` for IPv4, `u128` for IPv6.
+pub(crate) trait Stored: Key {
+    /// The front of a number: all of it for IPv4, the first 64 bits for IPv6.
+    type Front: Copy + Drop;
 
     /// The number with this front and these bits after it.
-    ghost joined: { ℕ → ℕ → ℕ };
+    ghost joined: { Self.Front → ℕ → ℕ };
 
-    /// Whether no bits follow the front.
-    ghost is_whole: { Bool };
-
-    /// Returns the front.
-    fn front(self) -> Self::Front
-        ensures { Self.Front.value result ≡ front_of (number self) };
-
-    /// Returns the bits after the front, 64 for IPv6. IPv4 has none, and returns ones.
-    fn rest(self) -> u64
-        ensures { joined (front_of (number self)) result ≡ number self };
+    /// Returns the front and the bits after it. IPv4 has none, and returns ones.
+    fn parts(self) -> (Self::Front, u64)
+        ensures { joined result.0 result.1 ≡ Self.number self };
 
     /// Returns the number of a front and the bits after it.
     fn of_parts(front: Self::Front, rest: u64) -> Self
-        ensures { number result ≡ joined (Self.Front.value front) rest };
+        ensures { Self.number result ≡ joined front rest };
 
-    /// Returns whether no bits follow the front.
-    fn is_whole() -> bool
-        ensures { result ≡ is_whole };
-
-    /// Returns whether the number is above all with this front.
-    fn is_above(self, front: Self::Front) -> bool
-        ensures above { IsTrue result → (rest : ℕ) → joined (Self.Front.value front) rest < number self }
-        ensures whole { IsTrue is_whole → result ≡ false → (rest : ℕ) → number self ≤ joined (Self.Front.value front) rest };
-
-    /// Returns whether the number is below all with this front.
-    fn is_under(self, front: Self::Front) -> bool
-        ensures { IsTrue result → (rest : ℕ) → number self < joined (Self.Front.value front) rest };
-
-    /// Returns the number of these bits.
-    fn of_bits(bits: u128) -> Self
-        requires { bits < 2 ^ width }
-        ensures { number result ≡ bits };
-
-    /// Returns the highest number.
-    fn highest() -> Self
-        ensures { number result + 1 ≡ 2 ^ width };
+    /// Returns the first 64 bits of the numbers with this front.
+    fn head_at(front: Self::Front) -> u64
+        ensures { (rest : ℕ) → result ≡ head_of Self.width (joined front rest) };
 
     /// Returns the first 64 bits.
     fn head(self) -> u64
-        ensures head { result ≡ head_of width (number self) }
-        ensures within { number self < 2 ^ width };
-
-    /// Returns whether the number is below the other.
-    fn is_below(self, other: Self) -> bool
-        ensures { IsTrue result ↔ number self < number other };
+        ensures head { result ≡ head_of Self.width (Self.number self) }
+        ensures within { Self.number self < 2 ^ Self.width };
 
     /// Returns the place of the highest bit of how much the number is above `first`, or 0.
     fn log_above(self, first: Self) -> u32
-        ensures { result < width };
+        ensures { result < Self.width };
 
     /// Returns how many steps of 2^`shift` numbers the number is above `first`, or `most` if that is less.
     fn steps(self, first: Self, shift: u32, most: u32) -> u32
-        requires { shift < width }
-        ensures { result ≡ min most ((number self - number first) / 2 ^ shift) };
+        requires { shift < Self.width }
+        ensures { result ≡ min most ((Self.number self - Self.number first) / 2 ^ shift) };
+}
+
+/// The highest number.
+pub(crate) fn highest<N: Stored>() -> N
+    ensures { N.number result + 1 ≡ 2 ^ N.width }
+{
+    N::mask(N::width())
 }
 
 impl Stored for u32 {
     type Front = u32;
 
-    ghost width = { 32 };
-
-    ghost number = { λ x. x };
-
-    ghost front_of = { λ x. x };
-
     ghost joined = { λ front rest. front };
 
-    ghost is_whole = { true };
-
     #[inline]
-    fn front(self) -> u32 {
-        self
-    }
-
-    #[inline]
-    fn rest(self) -> u64 {
-        u64::MAX
+    fn parts(self) -> (u32, u64) {
+        (self, u64::MAX)
     }
 
     #[inline]
@@ -135,38 +62,13 @@ impl Stored for u32 {
     }
 
     #[inline]
-    fn is_whole() -> bool {
-        true
-    }
-
-    #[inline]
-    fn is_above(self, front: u32) -> bool {
-        front < self
-    }
-
-    #[inline]
-    fn is_under(self, front: u32) -> bool {
-        self < front
-    }
-
-    #[inline]
-    fn of_bits(bits: u128) -> u32 {
-        bits as u32
-    }
-
-    #[inline]
-    fn highest() -> u32 {
-        u32::MAX
+    fn head_at(front: u32) -> u64 {
+        u64::from(front) << 32
     }
 
     #[inline]
     fn head(self) -> u64 {
         u64::from(self) << 32
-    }
-
-    #[inline]
-    fn is_below(self, other: u32) -> bool {
-        self < other
     }
 
     fn log_above(self, first: u32) -> u32 {
@@ -179,105 +81,46 @@ impl Stored for u32 {
     }
 }
 
-/// The number of an IPv6 address in two halves.
+/// The first 64 bits of a number in two words, so that they take no padding beside a hop.
 #[derive(Clone, Copy)]
-pub(crate) struct Halves {
-    high: u64,
-    low: u64,
+pub(crate) struct Words {
+    low: u32,
+    high: u32,
 }
 
-impl Halves {
-    /// The number.
-    #[inline]
-    fn bits(self) -> u128
-        ensures { result ≡ self.high * 2 ^ 64 + self.low }
-    {
-        (u128::from(self.high) << 64) + u128::from(self.low)
-    }
-}
-
-impl Stored for Halves {
+impl Stored for u128 {
     type Front = Words;
 
-    ghost width = { 128 };
-
-    ghost number = { λ x. x.high * 2 ^ 64 + x.low };
-
-    ghost front_of = { λ x. x / 2 ^ 64 };
-
-    ghost joined = { λ front rest. front * 2 ^ 64 + rest % 2 ^ 64 };
-
-    ghost is_whole = { false };
+    ghost joined = { λ front rest. front.high * 2 ^ 96 + front.low * 2 ^ 64 + rest % 2 ^ 64 };
 
     #[inline]
-    fn front(self) -> Words {
-        Words {
-            low: (self.high % (1 << 32)) as u32,
-            high: (self.high >> 32) as u32,
-        }
+    fn parts(self) -> (Words, u64) {
+        let low = (self >> 64 & 0xffff_ffff) as u32;
+        let high = (self >> 96) as u32;
+        (Words { low, high }, (self % (1 << 64)) as u64)
     }
 
     #[inline]
-    fn rest(self) -> u64 {
-        self.low
+    fn of_parts(front: Words, rest: u64) -> u128 {
+        (u128::from(u128::head_at(front)) << 64) + u128::from(rest)
     }
 
     #[inline]
-    fn of_parts(front: Words, rest: u64) -> Halves {
-        Halves {
-            high: front.value(),
-            low: rest,
-        }
-    }
-
-    #[inline]
-    fn is_whole() -> bool {
-        false
-    }
-
-    #[inline]
-    fn is_above(self, front: Words) -> bool {
-        front.value() < self.high
-    }
-
-    #[inline]
-    fn is_under(self, front: Words) -> bool {
-        self.high < front.value()
-    }
-
-    #[inline]
-    fn of_bits(bits: u128) -> Halves {
-        Halves {
-            high: (bits >> 64) as u64,
-            low: (bits % (1 << 64)) as u64,
-        }
-    }
-
-    #[inline]
-    fn highest() -> Halves {
-        Halves {
-            high: u64::MAX,
-            low: u64::MAX,
-        }
+    fn head_at(front: Words) -> u64 {
+        (u64::from(front.high) << 32) + u64::from(front.low)
     }
 
     #[inline]
     fn head(self) -> u64 {
-        self.high
+        (self >> 64) as u64
+    }
+
+    fn log_above(self, first: u128) -> u32 {
+        self.saturating_sub(first).max(1).ilog2()
     }
 
     #[inline]
-    fn is_below(self, other: Halves) -> bool {
-        self.bits() < other.bits()
-    }
-
-    fn log_above(self, first: Halves) -> u32 {
-        self.bits().saturating_sub(first.bits()).max(1).ilog2()
-    }
-
-    #[inline]
-    fn steps(self, first: Halves, shift: u32, most: u32) -> u32 {
-        let steps = self.bits().saturating_sub(first.bits()) >> shift;
-        steps.min(u128::from(most)) as u32
+    fn steps(self, first: u128, shift: u32, most: u32) -> u32 {
+        (self.saturating_sub(first) >> shift).min(u128::from(most)) as u32
     }
 }

@@ -14,4 +14,4 @@ pub record Answered (s t : Session) (line : List ℕ) (code : ℕ) : Type 0 wher
   pub whole : code ≡ 0 → cut ≡ []
   pub reply : printed (answer_lines (step s.table (command_of line) refused)) ≡ t.reply.items ++ cut
   pub table : t.table ≡ (step s.table (command_of line) refused).next
-  pub kept : t.kept ≡ s.kept
+  pub lists : t.lists ≡ s.lists

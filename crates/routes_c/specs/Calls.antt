@@ -1,24 +1,24 @@
 -- The effects of the C calls that change a table, by the number that they return.
 use Rattle.std.specs.Prelude.{◌≡◌, ◌≢◌, ◌⊎◌, ◌<◌, ◌≤◌, ℕ, true, false, List, []}
 use Rattle.ipnet_blocks.specs.Blocks.{Block}
+use Rattle.hop_index.specs.Indexes.{hop_number}
 use Rattle.route_choices.specs.declared.hop.Hop.{Hop}
 use Rattle.route_choices.specs.Choices.{holds_hop, is_one_too_many}
 use Rattle.route_laws.specs.Networks.{Stored, choices_at, routes_of, with_choice, without_choice}
 use Rattle.route_laws.specs.Tables.{match_of, match_number}
 use Rattle.routes_c.specs.Handles.{GoesOn, Keeps, session_of}
-use Rattle.routes_c.specs.Shown.{number_shown}
 use Rattle.routes_c.specs.declared.handle.Handle.{Handle}
 use Rattle.routes_c.specs.declared.session.Session.{Session}
 use Rattle.routes_c.specs.declared.shown.Change.{Change}
 
 -- the stored reply and the stored lists are unchanged
 abbrev pub KeepsLists : Session → Session → Type 0
-KeepsLists s t = (t.reply ≡ s.reply) × (t.kept ≡ s.kept)
+KeepsLists s t = (t.reply ≡ s.reply) × (t.lists ≡ s.lists)
 
 -- the hops in a change: those of the addresses that the network governs, before and after
 pub record Tells (T U : List Stored) (b : Block) (change : Change) : Type 0 where
-  pub before : change.before ≡ number_shown (match_number (match_of (routes_of T) b))
-  pub after : change.after ≡ number_shown (match_number (match_of (routes_of U) b))
+  pub before : change.before ≡ hop_number (match_number (match_of (routes_of T) b))
+  pub after : change.after ≡ hop_number (match_number (match_of (routes_of U) b))
 
 -- an `add`: 0 if the route was added; 5 exactly if eight other hops are stored; 2 if an allocation fails, which happens only if the
 -- network isn't stored. At 2 and 5 the table and the change are unchanged

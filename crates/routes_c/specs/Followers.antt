@@ -13,7 +13,7 @@ use Rattle.routes_c.specs.Handles.{Reads, follower_of}
 use Rattle.routes_c.specs.Lists.{MakesPieces, MakesRoutes}
 use Rattle.routes_c.specs.declared.follower_session.FollowerSession.{FollowerSession}
 use Rattle.routes_c.specs.declared.handle.Handle.{Handle}
-use Rattle.routes_c.specs.declared.kept.Kept.{Kept}
+use Rattle.routes_c.specs.declared.last_lists.LastLists.{LastLists}
 
 -- a line: 0 if it was read; 7 if it isn't a reply line; 2 if an allocation fails for keeping or committing a change; 8 exactly if there
 -- was a fault before. 2 and 7 are faults. The lists are unchanged
@@ -25,7 +25,7 @@ pub record Follows (s t : FollowerSession) (text : List ℕ) (code : ℕ) : Type
   pub not_a_line : code ≡ 7 → (s.follower.failed ≡ false) × (reply_of text ≡ None)
   pub failed : code ≡ 8 → (s.follower.failed ≡ true) × (t.follower ≡ s.follower)
   pub fault : code ≢ 0 → t.follower.failed ≡ true
-  pub kept : t.kept ≡ s.kept
+  pub lists : t.lists ≡ s.lists
 
 -- the hop of an address: 8 after a fault; without one 0 and the number of the hop, or 1 if the address has no hop. At 1 and 8 the
 -- number is unchanged
@@ -39,9 +39,9 @@ abbrev pub TellsHopAt : Handle → Handle → Address → ℕ → ℕ → ℕ �
 TellsHopAt old new x code was now = Reads follower_of old new ((code ≡ 3) × (now ≡ was)) (λ s. TellsHop s.follower.failed (hop_at (routes_of s.follower.table) x) code was now)
 
 -- a list of the hops: 0 if it was made, 2 if an allocation fails, and 8 exactly after a fault. All else is unchanged
-pub record FollowerMakes (s t : FollowerSession) (list : Kept → Kept → ℕ → Type 0) (code : ℕ) : Type 0 where
+pub record FollowerMakes (s t : FollowerSession) (list : LastLists → LastLists → ℕ → Type 0) (code : ℕ) : Type 0 where
   pub answers : (code ≡ 0) ⊎ ((code ≡ 2) ⊎ (code ≡ 8))
-  pub made : list s.kept t.kept code
+  pub made : list s.lists t.lists code
   pub failed : code ≡ 8 → s.follower.failed ≡ true
   pub works : code ≢ 8 → s.follower.failed ≡ false
   pub follower : t.follower ≡ s.follower

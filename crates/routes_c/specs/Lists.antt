@@ -7,25 +7,25 @@ use Rattle.routes_c.specs.Handles.{GoesOn, Keeps, session_of}
 use Rattle.routes_c.specs.RouteLists.{Shown}
 use Rattle.routes_c.specs.Shown.{piece_shown}
 use Rattle.routes_c.specs.declared.handle.Handle.{Handle}
-use Rattle.routes_c.specs.declared.kept.Kept.{Kept}
+use Rattle.routes_c.specs.declared.last_lists.LastLists.{LastLists}
 use Rattle.routes_c.specs.declared.session.Session.{Session}
 
 -- at 0 this is the list of pieces, and else the list is unchanged. The routes are unchanged
-pub record MakesPieces (k l : Kept) (ps : List FlatPiece) (code : ℕ) : Type 0 where
+pub record MakesPieces (k l : LastLists) (ps : List FlatPiece) (code : ℕ) : Type 0 where
   pub made : code ≡ 0 → l.pieces.items ≡ map piece_shown ps
   pub kept : code ≢ 0 → l.pieces ≡ k.pieces
   pub routes : l.routes ≡ k.routes
 
 -- at 0 the list of routes has this property, in the layout of C, and else the list is unchanged. The pieces are unchanged
-pub record MakesRoutes (k l : Kept) (P : List TableRoute → Type 0) (code : ℕ) : Type 0 where
+pub record MakesRoutes (k l : LastLists) (P : List TableRoute → Type 0) (code : ℕ) : Type 0 where
   pub made : code ≡ 0 → Shown P l.routes.items
   pub kept : code ≢ 0 → l.routes ≡ k.routes
   pub pieces : l.pieces ≡ k.pieces
 
 -- a list of a table: 0 if it was made, 2 if an allocation fails. All else is unchanged
-pub record Makes (s t : Session) (list : Kept → Kept → ℕ → Type 0) (code : ℕ) : Type 0 where
+pub record Makes (s t : Session) (list : LastLists → LastLists → ℕ → Type 0) (code : ℕ) : Type 0 where
   pub answers : (code ≡ 0) ⊎ (code ≡ 2)
-  pub made : list s.kept t.kept code
+  pub made : list s.lists t.lists code
   pub table : t.table ≡ s.table
   pub reply : t.reply ≡ s.reply
 

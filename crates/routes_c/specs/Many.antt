@@ -1,13 +1,13 @@
 -- Hops of addresses as numbers, one or many at once.
 use Rattle.std.specs.Prelude.{◌≡◌, ◌+◌, ◌*◌, ◌^◌, ◌++◌, ℕ, List, Option, drop, length, map, min, take}
 use Rattle.std.specs.Option.{option_map}
-use Rattle.hop_index.specs.Indexes.{Index, hop_of}
+use Rattle.hop_index.specs.Indexes.{Index, hop_number, hop_of}
 use Rattle.ipnet_addr.specs.Addresses.{Ipv4, Ipv6}
 use Rattle.ipnet_blocks.specs.Networks.{block_of}
 use Rattle.route_laws.specs.Networks.{Stored, routes_of}
 use Rattle.route_laws.specs.Tables.{item_of, match_of}
 use Rattle.routes_c.specs.Handles.{Reads}
-use Rattle.routes_c.specs.Shown.{match_shown, number_shown}
+use Rattle.routes_c.specs.Shown.{match_shown}
 use Rattle.routes_c.specs.declared.handle.Handle.{Handle}
 use Rattle.routes_c.specs.declared.shown.Addr6.{Addr6}
 
@@ -21,11 +21,11 @@ hop6_at T a = match_shown (option_map item_of (match_of (routes_of T) (block_of 
 
 -- the hop of an address in an index, as one number: 2^32 if it has none
 abbrev pub index_hop4 : Index → ℕ → ℕ
-index_hop4 i addr = number_shown (hop_of i (record { family = Ipv4; number = addr }))
+index_hop4 i addr = hop_number (hop_of i (record { family = Ipv4; number = addr }))
 
 -- the same for an IPv6 address
 abbrev pub index_hop6 : Index → Addr6 → ℕ
-index_hop6 i a = number_shown (hop_of i (record { family = Ipv6; number = a.high * 2 ^ 64 + a.low }))
+index_hop6 i a = hop_number (hop_of i (record { family = Ipv6; number = a.high * 2 ^ 64 + a.low }))
 
 -- the results for as many addresses as there is room for, in the same order; the rest of the room is unchanged
 abbrev pub Fills : {A : Type 0} → (A → ℕ) → List A → List ℕ → List ℕ → Type 0

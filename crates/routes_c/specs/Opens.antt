@@ -8,7 +8,7 @@ use Rattle.routes_c.specs.Contents.{follower_in, hops_in, index_in, table_in}
 use Rattle.routes_c.specs.declared.content.Content.{Content}
 use Rattle.routes_c.specs.declared.follower_session.FollowerSession.{FollowerSession}
 use Rattle.routes_c.specs.declared.index_session.IndexSession.{IndexSession}
-use Rattle.routes_c.specs.declared.kept.Kept.{Kept}
+use Rattle.routes_c.specs.declared.last_lists.LastLists.{LastLists}
 use Rattle.routes_c.specs.declared.session.Session.{Session}
 
 -- an open handle is unchanged, with 4; a closed one gets content of this property, with 0, or stays closed, with another number
@@ -18,17 +18,17 @@ Opens None None refused opened code = refused code
 Opens None (Some d) refused opened code = (code ≡ 0) × opened d
 
 -- no list was made yet
-pub record IsEmpty (k : Kept) : Type 0 where
+pub record IsEmpty (k : LastLists) : Type 0 where
   pub pieces : k.pieces.items ≡ []
   pub routes : k.routes.items ≡ []
 
 -- a new table
 abbrev pub IsNewTable : Content → Type 0
-IsNewTable c = MatchOption (table_in c) ⊥ (λ s. (s.table ≡ []) × (s.reply.items ≡ []) × IsEmpty s.kept)
+IsNewTable c = MatchOption (table_in c) ⊥ (λ s. (s.table ≡ []) × (s.reply.items ≡ []) × IsEmpty s.lists)
 
 -- a follower that has read no line
 abbrev pub IsNewFollower : Content → Type 0
-IsNewFollower c = MatchOption (follower_in c) ⊥ (λ s. (s.follower ≡ record { table = []; pending = []; failed = false }) × IsEmpty s.kept)
+IsNewFollower c = MatchOption (follower_in c) ⊥ (λ s. (s.follower ≡ record { table = []; pending = []; failed = false }) × IsEmpty s.lists)
 
 -- the index has the hops of the table
 abbrev pub HasHopsOf : List Stored → Index → Type 0

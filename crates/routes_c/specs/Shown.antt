@@ -22,11 +22,6 @@ abbrev pub hop_shown : Hop → ℕ
 hop_shown (Number k) = k
 hop_shown Drop = 2 ^ 32
 
--- the number of a hop, or 2^32 for none
-abbrev pub number_shown : Option ℕ → ℕ
-number_shown None = 2 ^ 32
-number_shown (Some k) = k
-
 -- the hop of a lookup's result as one number: 2^32 for `drop`, and 2^33 for no match
 abbrev pub match_shown : Option (IpNet × Hop × ℕ) → ℕ
 match_shown None = 2 ^ 33

@@ -10,7 +10,7 @@ ghost use Rattle.routes_c.specs.Opens.{HasHopsOf, IsEmpty, IsNoIndex};
 ghost use Rattle.routes_c.specs.RouteLists.{Shown};
 
 use crate::index_session::IndexSession;
-use crate::kept::Kept;
+use crate::last_lists::LastLists;
 use crate::list_query::items;
 use crate::shown::Route;
 use hop_index::HopIndex;
@@ -22,7 +22,7 @@ use std::alloc::{AllocError, Global};
 #[derive(Drop)]
 pub struct FollowerSession {
     pub(crate) follower: Follower,
-    pub(crate) kept: Kept,
+    pub(crate) lists: LastLists,
 }
 
 /// The routes of a least table of the hops.
@@ -39,11 +39,11 @@ impl FollowerSession {
     /// Makes the content for a follower, without lists.
     pub(crate) fn new(alloc: Global, follower: Follower) -> FollowerSession
         ensures follower { result.follower ≡ follower }
-        ensures kept { IsEmpty result.kept }
+        ensures lists { IsEmpty result.lists }
     {
         FollowerSession {
             follower,
-            kept: Kept::new(alloc),
+            lists: LastLists::new(alloc),
         }
     }
 
@@ -82,7 +82,7 @@ impl FollowerSession {
         let Some(flat) = self.follower.flat() else {
             return 8;
         };
-        self.kept.flat(alloc, flat)
+        self.lists.flat(alloc, flat)
     }
 
     /// Makes the list of routes of a least table.
@@ -95,7 +95,7 @@ impl FollowerSession {
         let Ok(routes) = least_of(alloc, &self.follower) else {
             return 2;
         };
-        self.kept.routes = routes;
+        self.lists.routes = routes;
         0
     }
 

@@ -6,7 +6,7 @@ ghost use Rattle.routes_c.specs.Handles.{Copies, Finds, GoesOn, IsHandle, follow
 
 use crate::follower_session::FollowerSession;
 use crate::handle::Handle;
-use crate::kept::{copy_from, tell_at};
+use crate::last_lists::{copy_from, tell_at};
 use crate::shown::{Piece, Route, ip4, ip6};
 use ipnet::IpAddr;
 use std::alloc::Global;
@@ -44,10 +44,10 @@ pub extern "C" fn routes_follower_piece_at(
     piece: &mut Piece,
 ) -> u32
     requires { IsHandle follower.old }
-    ensures { Finds follower_of follower.old follower.new (λ s. slice_get s.kept.pieces.items index) result piece.old piece.new }
+    ensures { Finds follower_of follower.old follower.new (λ s. slice_get s.lists.pieces.items index) result piece.old piece.new }
 {
     follower.on_with(piece, 3, |session: &mut FollowerSession, piece| {
-        tell_at(&session.kept.pieces, index, piece)
+        tell_at(&session.lists.pieces, index, piece)
     })
 }
 
@@ -59,10 +59,10 @@ pub extern "C" fn routes_follower_read_pieces(
     out: &mut [Piece],
 ) -> usize
     requires { IsHandle follower.old }
-    ensures { Copies follower_of follower.old follower.new (λ s. s.kept.pieces.items) from result out.old out.new }
+    ensures { Copies follower_of follower.old follower.new (λ s. s.lists.pieces.items) from result out.old out.new }
 {
     follower.on_slice(out, 0, |session: &mut FollowerSession, out| {
-        copy_from(session.kept.pieces.as_slice(), from, out)
+        copy_from(session.lists.pieces.as_slice(), from, out)
     })
 }
 
@@ -127,10 +127,10 @@ pub extern "C" fn routes_follower_route_at(
     route: &mut Route,
 ) -> u32
     requires { IsHandle follower.old }
-    ensures { Finds follower_of follower.old follower.new (λ s. slice_get s.kept.routes.items index) result route.old route.new }
+    ensures { Finds follower_of follower.old follower.new (λ s. slice_get s.lists.routes.items index) result route.old route.new }
 {
     follower.on_with(route, 3, |session: &mut FollowerSession, route| {
-        tell_at(&session.kept.routes, index, route)
+        tell_at(&session.lists.routes, index, route)
     })
 }
 
@@ -143,9 +143,9 @@ pub extern "C" fn routes_follower_read(
     out: &mut [Route],
 ) -> usize
     requires { IsHandle follower.old }
-    ensures { Copies follower_of follower.old follower.new (λ s. s.kept.routes.items) from result out.old out.new }
+    ensures { Copies follower_of follower.old follower.new (λ s. s.lists.routes.items) from result out.old out.new }
 {
     follower.on_slice(out, 0, |session: &mut FollowerSession, out| {
-        copy_from(session.kept.routes.as_slice(), from, out)
+        copy_from(session.lists.routes.as_slice(), from, out)
     })
 }

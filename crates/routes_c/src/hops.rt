@@ -1,25 +1,21 @@
 //! Hops of addresses as numbers, for a table and for an index: one, or many in one call.
 ghost use Rattle.std.specs.Prelude.{◌≡◌, ℕ, ◌+◌, ◌*◌, ◌^◌, ◌≤◌, Some, length, map};
-ghost use Rattle.hop_index.specs.Indexes.{hop_of};
+ghost use Rattle.hop_index.specs.Indexes.{hop_number, hop_of};
 ghost use Rattle.ipnet_addr.specs.Addresses.{Ipv6};
 ghost use Rattle.routes_c.specs.Contents.{hops_in};
 ghost use Rattle.routes_c.specs.Handles.{Finds, IsHandle, index_of, session_of};
 ghost use Rattle.routes_c.specs.Many.{Answers, Fills, hop4_at, hop6_at, index_hop4, index_hop6};
-ghost use Rattle.routes_c.specs.Shown.{number_shown};
 
 use crate::handle::Handle;
 use crate::index_session::IndexSession;
 use crate::session::Session;
-use crate::shown::{Addr6, ip6, net4, net6, shown_match, shown_number};
-use hop_index::{Addressed, HopIndex};
+use crate::shown::{Addr6, ip6, net4, net6, shown_match};
+use hop_index::{Addressed, FromHop, HopIndex};
 use ipnet::IpAddr;
 use route_table::RouteTable;
 
-/// The number of addresses whose hops are looked up in an index at once.
-const GROUP: usize = 64;
-
 /// A table, which returns the hop of an address as one number.
-pub(crate) trait Hops<A> {
+pub(crate) trait HopLookup<A> {
     ghost number: { Self → A → ℕ };
 
     /// Returns the hop of this address as one number.
@@ -27,7 +23,7 @@ pub(crate) trait Hops<A> {
         ensures { result ≡ number self.now addr };
 }
 
-impl Hops<u32> for RouteTable {
+impl HopLookup<u32> for RouteTable {
     ghost number = { hop4_at };
 
     fn hop_number(&self, addr: u32) -> u64 {
@@ -38,7 +34,7 @@ impl Hops<u32> for RouteTable {
     }
 }
 
-impl Hops<Addr6> for RouteTable {
+impl HopLookup<Addr6> for RouteTable {
     ghost number = { hop6_at };
 
     fn hop_number(&self, addr: Addr6) -> u64 {
@@ -50,22 +46,22 @@ impl Hops<Addr6> for RouteTable {
 }
 
 /// Looks up the hops of the addresses; both slices have the same length.
-fn fill_all<A: Copy, T: Hops<A>>(told: &T, addrs: &[A], hops: &mut [u64])
+fn fill_all<A: Copy, T: HopLookup<A>>(table: &T, addrs: &[A], hops: &mut [u64])
     requires { length hops.old ≡ length addrs.now }
-    ensures { hops.new ≡ map (T.number told.now) addrs.now }
+    ensures { hops.new ≡ map (T.number table.now) addrs.now }
 {
     for place in 0..addrs.len() {
-        hops[place] = told.hop_number(addrs[place]);
+        hops[place] = table.hop_number(addrs[place]);
     }
 }
 
 /// Looks up the hops of as many addresses as there is room for.
-fn fill<A: Copy, T: Hops<A>>(told: &T, addrs: &[A], hops: &mut [u64]) -> u32
+fn fill<A: Copy, T: HopLookup<A>>(table: &T, addrs: &[A], hops: &mut [u64]) -> u32
     ensures answers { result ≡ 0 }
-    ensures hops { Fills (T.number told.now) addrs.now hops.old hops.new }
+    ensures hops { Fills (T.number table.now) addrs.now hops.old hops.new }
 {
     let count = addrs.len().min(hops.len());
-    fill_all(told, &addrs[..count], &mut hops[..count]);
+    fill_all(table, &addrs[..count], &mut hops[..count]);
     0
 }
 
@@ -81,53 +77,19 @@ impl Addressed for Addr6 {
 /// Looks up the hop of one address in an index.
 fn tell_hop<A: Addressed>(index: &HopIndex, addr: A, hop: &mut u64) -> u32
     ensures answers { result ≡ 0 }
-    ensures hop { hop.new ≡ number_shown (hop_of index.now (A.address addr)) }
+    ensures hop { hop.new ≡ hop_number (hop_of index.now (A.address addr)) }
 {
-    *hop = shown_number(index.hop(addr.addr()));
+    *hop = u64::from_hop(index.hop(addr.addr()));
     0
-}
-
-/// Stores the hops as numbers; both slices have the same length.
-fn show_all(found: &[Option<u32>], hops: &mut [u64])
-    requires { length hops.old ≡ length found.now }
-    ensures { hops.new ≡ map number_shown found.now }
-{
-    for place in 0..found.len() {
-        hops[place] = shown_number(found[place]);
-    }
-}
-
-/// Looks up the hops of at most 64 addresses in an index; both slices have the same length.
-fn fill_group<A: Addressed>(index: &HopIndex, addrs: &[A], hops: &mut [u64])
-    requires few { length addrs.now ≤ 64 }
-    requires hops { length hops.old ≡ length addrs.now }
-    ensures { hops.new ≡ map (λ a. number_shown (hop_of index.now (A.address a))) addrs.now }
-{
-    let mut found = [None; GROUP];
-    index.hops_of(addrs, &mut found[..addrs.len()]);
-    show_all(&found[..addrs.len()], hops);
-}
-
-/// Looks up the hops of the addresses in an index, group by group; both slices have the same length.
-fn fill_groups<A: Addressed>(index: &HopIndex, addrs: &[A], hops: &mut [u64])
-    requires { length hops.old ≡ length addrs.now }
-    ensures { hops.new ≡ map (λ a. number_shown (hop_of index.now (A.address a))) addrs.now }
-{
-    let mut place = 0;
-    while place < addrs.len() {
-        let end = place + (addrs.len() - place).min(GROUP);
-        fill_group(index, &addrs[place..end], &mut hops[place..end]);
-        place = end;
-    }
 }
 
 /// Looks up in an index the hops of as many addresses as there is room for.
 fn fill_from_index<A: Addressed>(index: &HopIndex, addrs: &[A], hops: &mut [u64]) -> u32
     ensures answers { result ≡ 0 }
-    ensures hops { Fills (λ a. number_shown (hop_of index.now (A.address a))) addrs.now hops.old hops.new }
+    ensures hops { Fills (λ a. hop_number (hop_of index.now (A.address a))) addrs.now hops.old hops.new }
 {
     let count = addrs.len().min(hops.len());
-    fill_groups(index, &addrs[..count], &mut hops[..count]);
+    index.hops_of(&addrs[..count], &mut hops[..count]);
     0
 }
 

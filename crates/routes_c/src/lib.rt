@@ -14,7 +14,7 @@ pub mod following;
 pub mod handle;
 pub mod hops;
 pub mod index_session;
-mod kept;
+mod last_lists;
 mod lent;
 pub mod lines;
 pub mod list_query;

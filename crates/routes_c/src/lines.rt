@@ -4,7 +4,7 @@ ghost use Rattle.routes_c.specs.Answered.{Answered};
 ghost use Rattle.routes_c.specs.Handles.{Copies, GoesOn, IsHandle, session_of};
 
 use crate::handle::Handle;
-use crate::kept::copy_from;
+use crate::last_lists::copy_from;
 use crate::session::Session;
 use std::alloc::Global;
 

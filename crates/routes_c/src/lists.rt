@@ -11,7 +11,7 @@ ghost use Rattle.routes_c.specs.Lists.{Flattens, ListsAt, ListsOf};
 ghost use Rattle.routes_c.specs.RouteLists.{AreAsked, AreGoverned, all_routes, own_routes};
 
 use crate::handle::Handle;
-use crate::kept::{copy_from, tell_at};
+use crate::last_lists::{copy_from, tell_at};
 use crate::list_query::ListQuery;
 use crate::session::Session;
 use crate::shown::{Piece, Route, net4, net6};
@@ -35,10 +35,10 @@ pub extern "C" fn routes_flat(alloc: Global, handle: &mut Handle) -> u32
 #[unsafe(no_mangle)]
 pub extern "C" fn routes_piece_at(handle: &mut Handle, index: usize, piece: &mut Piece) -> u32
     requires { IsHandle handle.old }
-    ensures { Finds session_of handle.old handle.new (λ s. slice_get s.kept.pieces.items index) result piece.old piece.new }
+    ensures { Finds session_of handle.old handle.new (λ s. slice_get s.lists.pieces.items index) result piece.old piece.new }
 {
     handle.on_with(piece, 3, |session: &mut Session, piece| {
-        tell_at(&session.kept.pieces, index, piece)
+        tell_at(&session.lists.pieces, index, piece)
     })
 }
 
@@ -47,10 +47,10 @@ pub extern "C" fn routes_piece_at(handle: &mut Handle, index: usize, piece: &mut
 #[unsafe(no_mangle)]
 pub extern "C" fn routes_read_pieces(handle: &mut Handle, from: usize, out: &mut [Piece]) -> usize
     requires { IsHandle handle.old }
-    ensures { Copies session_of handle.old handle.new (λ s. s.kept.pieces.items) from result out.old out.new }
+    ensures { Copies session_of handle.old handle.new (λ s. s.lists.pieces.items) from result out.old out.new }
 {
     handle.on_slice(out, 0, |session: &mut Session, out| {
-        copy_from(session.kept.pieces.as_slice(), from, out)
+        copy_from(session.lists.pieces.as_slice(), from, out)
     })
 }
 
@@ -323,10 +323,10 @@ pub extern "C" fn routes_least(alloc: Global, handle: &mut Handle) -> u32
 #[unsafe(no_mangle)]
 pub extern "C" fn routes_route_at(handle: &mut Handle, index: usize, route: &mut Route) -> u32
     requires { IsHandle handle.old }
-    ensures { Finds session_of handle.old handle.new (λ s. slice_get s.kept.routes.items index) result route.old route.new }
+    ensures { Finds session_of handle.old handle.new (λ s. slice_get s.lists.routes.items index) result route.old route.new }
 {
     handle.on_with(route, 3, |session: &mut Session, route| {
-        tell_at(&session.kept.routes, index, route)
+        tell_at(&session.lists.routes, index, route)
     })
 }
 
@@ -335,9 +335,9 @@ pub extern "C" fn routes_route_at(handle: &mut Handle, index: usize, route: &mut
 #[unsafe(no_mangle)]
 pub extern "C" fn routes_read(handle: &mut Handle, from: usize, out: &mut [Route]) -> usize
     requires { IsHandle handle.old }
-    ensures { Copies session_of handle.old handle.new (λ s. s.kept.routes.items) from result out.old out.new }
+    ensures { Copies session_of handle.old handle.new (λ s. s.lists.routes.items) from result out.old out.new }
 {
     handle.on_slice(out, 0, |session: &mut Session, out| {
-        copy_from(session.kept.routes.as_slice(), from, out)
+        copy_from(session.lists.routes.as_slice(), from, out)
     })
 }

@@ -11,7 +11,7 @@ ghost use Rattle.routes_c.specs.RouteLists.{AreAsked};
 ghost use Rattle.routes_c.specs.Shown.{found_at};
 
 use crate::index_session::IndexSession;
-use crate::kept::Kept;
+use crate::last_lists::LastLists;
 use crate::list_query::ListQuery;
 use crate::shown::{Change, Route, show, shown_change};
 use hop_index::HopIndex;
@@ -25,7 +25,7 @@ use std::alloc::Global;
 pub struct Session {
     pub(crate) table: RouteTable,
     pub(crate) reply: Vec<u8>,
-    pub(crate) kept: Kept,
+    pub(crate) lists: LastLists,
 }
 
 impl Session {
@@ -33,12 +33,12 @@ impl Session {
     pub(crate) fn new(alloc: Global, table: RouteTable) -> Session
         ensures table { result.table ≡ table }
         ensures reply { result.reply.items ≡ [] }
-        ensures kept { IsEmpty result.kept }
+        ensures lists { IsEmpty result.lists }
     {
         Session {
             table,
             reply: Vec::new(alloc),
-            kept: Kept::new(alloc),
+            lists: LastLists::new(alloc),
         }
     }
 
@@ -95,7 +95,7 @@ impl Session {
     pub(crate) fn flat(&mut self, alloc: Global) -> u32
         ensures { Flattens self.old self.new result }
     {
-        self.kept.flat(alloc, self.table.flat())
+        self.lists.flat(alloc, self.table.flat())
     }
 
     /// Makes the list of routes that is asked for.
@@ -105,7 +105,7 @@ impl Session {
         let Ok(routes) = asked.list(alloc, &self.table) else {
             return 2;
         };
-        self.kept.routes = routes;
+        self.lists.routes = routes;
         0
     }
 

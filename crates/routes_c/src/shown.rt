@@ -4,11 +4,13 @@ ghost use Rattle.std.specs.Option.{option_map};
 ghost use Rattle.ipnet_addr.specs.Addresses.{Ipv4, Ipv6, address_of};
 ghost use Rattle.ipnet.specs.declared.ip_net.IpNet.TheVariants.{V4, V6};
 ghost use Rattle.ipnet.specs.IpNets.{block, network_at};
+ghost use Rattle.hop_index.specs.Indexes.{hop_number};
 ghost use Rattle.route_laws.specs.Tables.{route_of};
 ghost use Rattle.routes_c.specs.Handles.{Told};
 ghost use Rattle.routes_c.specs.RouteLists.{route_shown};
-ghost use Rattle.routes_c.specs.Shown.{found_shown, given_hop, hop_shown, match_shown, number_shown, piece_shown, shown};
+ghost use Rattle.routes_c.specs.Shown.{found_shown, given_hop, hop_shown, match_shown, piece_shown, shown};
 
+use hop_index::FromHop;
 use ipnet::{IpAddr, IpNet, Ipv4Net, Ipv6Net};
 use ipnet_addr::bits::{ipv4_of, ipv6_of};
 use route_table::Hop;
@@ -118,24 +120,14 @@ fn shown_hop(hop: Hop) -> u64
     }
 }
 
-/// The number of a hop, or 2^32 for none.
-pub(crate) fn shown_number(hop: Option<u32>) -> u64
-    ensures { result ≡ number_shown hop }
-{
-    match hop {
-        Some(number) => number as u64,
-        None => NONE,
-    }
-}
-
 /// A change in the layout of C.
 pub(crate) fn shown_change(before: Option<u32>, after: Option<u32>) -> Change
-    ensures before { result.before ≡ number_shown before }
-    ensures after { result.after ≡ number_shown after }
+    ensures before { result.before ≡ hop_number before }
+    ensures after { result.after ≡ hop_number after }
 {
     Change {
-        before: shown_number(before),
-        after: shown_number(after),
+        before: u64::from_hop(before),
+        after: u64::from_hop(after),
     }
 }
 

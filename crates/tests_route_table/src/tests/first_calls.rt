@@ -111,6 +111,9 @@ fn indexed_numbers<R: Abort + Alloc<A = Global>>(rt: &R, table: &RouteTable) {
     let mut hops = [None; 2];
     index.hops_of(&addrs, &mut hops);
     assert_eq!(rt; hops, [Some(2), None]);
+    let mut numbers = [0_u64; 2];
+    index.hops_of(&addrs, &mut numbers);
+    assert_eq!(rt; numbers, [2, 1 << 32]);
 }
 
 /// The half, and then it isn't there.

@@ -13,6 +13,6 @@ loop-place-preserved g c =
     record {
       as_long = let n : length c.find.new.hops ≡ end - c.loop-place.place = grind (arith, c.find.ensures, length-map, length-take, length-drop) in grind (arith, n, i.as_long, length-append, length-take, length-drop);
       within = within;
-      done = one_more_group (λ addr. hop_of (index_of c.args.sides.now.v4 c.args.sides.now.v6) (g.A.Addressed.address addr)) c.args.addrs.now c.loop-place.hops c.find.new.hops c.loop-place.place end
+      done = one_more_group (λ addr. g.H.FromHop.of_hop (hop_of (index_of c.args.sides.now.v4 c.args.sides.now.v6) (g.A.Addressed.address addr))) c.args.addrs.now c.loop-place.hops c.find.new.hops c.loop-place.place end
           (omega arith) within i.as_long c.find.ensures i.done;
     }

@@ -11,6 +11,6 @@ pub returns : goal.returns
 returns g c =
     let rs : List HopRange = c.self.inside.nodes.ranges in
     let d : HopRange = record { last = 0; hop = None } in
-    let number : ℕ = g.N.Stored.number c.args.number in
+    let number : ℕ = g.N.Key.number c.args.number in
     let h = before_pads rs _ _ c.ended.result c.self.invariant.1 c.requires.number c.ended.ensures.below in
     c.hop.ensures d ∙ (sym (found rs c.ended.result d number (omega (arith, h)) c.ended.ensures.below c.ended.ensures.from) ∙ ap (λ (v : Divided). hop_in v.ranges number) c.self.view_is)

@@ -8,10 +8,10 @@ use Rattle.hop_index.proofs.nodes.Nodes.+entries.Goals.{then-next-place, else-ne
 
 pub returns-clause-entries : goal.returns-clause-entries
 returns-clause-entries g t c =
-    let end : ℕ = 2 ^ g.N.Stored.width in
-    let cell : ℕ → ℕ = cell_by g.N.Stored.width (option_copied c.args.tops) c.args.node.now in
+    let end : ℕ = 2 ^ g.N.Key.width in
+    let cell : ℕ → ℕ = cell_by g.N.Key.width (option_copied c.args.tops) c.args.node.now in
     let within : (x : ℕ) → x < end → cell x < c.loop-cell.cell = λ x l.
-    let u : cell x ≤ cell (g.N.Stored.number c.highest.result) = cell_by_ascends g.N.Stored.width (option_copied c.args.tops) c.requires.tops c.args.node.now x (g.N.Stored.number c.highest.result) (omega (arith, c.highest.ensures)) (omega (arith, c.highest.ensures)) in
+    let u : cell x ≤ cell (g.N.Key.number c.highest.result) = cell_by_ascends g.N.Key.width (option_copied c.args.tops) c.requires.tops c.args.node.now x (g.N.Key.number c.highest.result) (omega (arith, c.highest.ensures)) (omega (arith, c.highest.ensures)) in
     omega (arith, c.cell_by-end.ensures.cell, c.loop-cell-test.false) in
     rw (sym c.loop-cell.invariant.ranges) (record {
       within = λ x l. let w = within x l in omega (arith, c.loop-cell.invariant.led.all);
@@ -29,7 +29,7 @@ add-requires-clause-entries g t c = λ d before after.
 pub loop-cell-preserved : goal.loop-cell-preserved
 loop-cell-preserved g t c =
     let rs : List HopRange = c.loop-cell.self.ranges in
-    let end : ℕ = 2 ^ g.N.Stored.width in
+    let end : ℕ = 2 ^ g.N.Key.width in
     let old : List StoredNode = c.loop-cell.self.nodes.items in
     let place : ℕ = c.loop-cell.place in
     let next : ℕ = c.after_cell-next.result in
@@ -51,6 +51,6 @@ loop-cell-preserved g t c =
       ranges = i.ranges;
       nodes = step.1;
       kept = λ x e h. step.2 x e (i.kept x e h);
-      led = led_on g.N.Stored.width (option_copied c.args.tops) c.requires.tops c.args.node.now rs padded within old c.if-next-place.self.nodes.items c.loop-cell.cell place next c.if-next-place.entry c.loop-cell.entries.items
+      led = led_on g.N.Key.width (option_copied c.args.tops) c.requires.tops c.args.node.now rs padded within old c.if-next-place.self.nodes.items c.loop-cell.cell place next c.if-next-place.entry c.loop-cell.entries.items
           i.led s.least s.most s.inside s.beyond step.2 step.3;
     })

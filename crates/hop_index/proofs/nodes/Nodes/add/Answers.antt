@@ -7,4 +7,4 @@ pub returns-clause-nodes : goal.returns-clause-nodes
 returns-clause-nodes g c =
     let node : StoredNode = c.at.result in
     rw (c.in_ok-push.ensures.items, c.in_ok-extend_from_slice.ensures.items)
-    (one_more_node c.args.self.now.nodes.items node c.args.self.now.ranges (2 ^ g.N.Stored.width) c.args.self.now.cells.items c.args.entries.now (search rules) (search rules) c.requires.nodes)
+    (one_more_node c.args.self.now.nodes.items node c.args.self.now.ranges (2 ^ g.N.Key.width) c.args.self.now.cells.items c.args.entries.now (search rules) (search rules) c.requires.nodes)

@@ -7,7 +7,7 @@ abbrev pub invariant-loop-place : goal.invariant-loop-place
 invariant-loop-place g l = record {
   least : l.initial.place ≤ l.place;
   most : l.place ≤ l.node.after;
-  inside : (k : ℕ) (d : HopRange) → l.initial.place ≤ k → k < l.place → cell_by g.N.Stored.width (option_copied l.tops) l.node (get_or l.self.ranges k d).last ≤ l.cell;
+  inside : (k : ℕ) (d : HopRange) → l.initial.place ≤ k → k < l.place → cell_by g.N.Key.width (option_copied l.tops) l.node (get_or l.self.ranges k d).last ≤ l.cell;
 }
 
 abbrev pub decreases-loop-place : goal.decreases-loop-place

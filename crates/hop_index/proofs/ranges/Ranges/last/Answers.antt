@@ -10,7 +10,6 @@ pub returns : goal.returns
 returns g c = λ d.
     let r = ap (λ (r : HopRange). r.last) (read g.N.Stored.joined c.self.inside.ranges.items c.self.inside.rests.items c.self.inside.marks.items c.args.self.now c.self.view_is c.args.place d c.index.result.now c.requires c.index.ensures) in
     let is = c.of_parts.ensures in
-    let front = c.front.ensures in
     let rest = c.stored_at-rest.ensures in
     let same = c.deref.ensures.value in
     cc

@@ -7,8 +7,8 @@ use Rattle.hop_index.proofs.ranges.Ranges.pad.Goals as goal
 pub loop-preserved : goal.loop-preserved
 loop-preserved g c =
     let rs : List HopRange = c.loop.self in
-    let size : ℕ = 2 ^ g.N.Stored.width in
-    let top : ℕ = g.N.Stored.number c.highest.result in
+    let size : ℕ = 2 ^ g.N.Key.width in
+    let top : ℕ = g.N.Key.number c.highest.result in
     let r : HopRange = record { last = top; hop = None } in
     let highest : top + 1 ≡ size = c.highest.ensures in
     let i = c.loop.invariant in

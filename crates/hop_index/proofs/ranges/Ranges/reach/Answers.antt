@@ -1,4 +1,4 @@
-use Rattle.std.proofs.Common.{◌+◌, ℕ, List, None, length, arith}
+use Rattle.std.proofs.Common.{◌≡◌, ◌+◌, ◌-◌, ℕ, List, None, length, ap, ◌∙◌, arith}
 use Rattle.hop_index.specs.Ranges.{HopRange}
 use Rattle.hop_index.specs.InnerRanges.{EndsBelow}
 use Rattle.hop_index.proofs.Searches.{below_later, push_ascends, push_below, push_none, push_reaches}
@@ -7,10 +7,10 @@ use Rattle.hop_index.proofs.ranges.Ranges.reach.Goals as goal
 pub returns : goal.returns
 returns g c =
     let rs : List HopRange = c.args.self.now in
-    let before : ℕ = g.N.Stored.number c.of_bits-before.result in
+    let before : ℕ = g.N.Key.number c.from_bits-before.result in
     let r : HopRange = record { last = before; hop = None } in
     let some = c.if-number-eq0.false in
-    let is = c.of_bits-before.ensures in
+    let is : before ≡ c.args.number - 1 = ap g.N.Key.number c.from_bits-before.ensures ∙ g.met.N.Key.numbered (c.args.number - 1) (let within = c.requires.within in omega arith) in
     let below : EndsBelow rs before (length rs) = c.end_below.ensures.0 c.if-not-end_below.false in
     rw c.in_ok-push.ensures (record {
       ascending = push_ascends rs r c.requires.ascending (below_later rs before (before + 1) (length rs) (omega arith) below);

@@ -13,7 +13,7 @@ pub returns : goal.returns
 returns c =
     record {
       answers = elim c.flat-2.ensures.answers [ inl e ↦ inl e | inr e ↦ inr (inl e) ];
-      made = subst (λ ps. MakesPieces c.args.self.now.kept c.flat-2.new.self ps c.flat-2.result) (flat_is (routes_of c.args.self.now.follower.table) c.in-Some.flat c.in-Some.ensures.flat) c.flat-2.ensures.list;
+      made = subst (λ ps. MakesPieces c.args.self.now.lists c.flat-2.new.self ps c.flat-2.result) (flat_is (routes_of c.args.self.now.follower.table) c.in-Some.flat c.in-Some.ensures.flat) c.flat-2.ensures.list;
       failed = λ e. absurd (elim c.flat-2.ensures.answers [ inl z ↦ omega (arith, e, z) | inr z ↦ omega (arith, e, z) ]);
       works = λ _. works_at c.args.self.now.follower.failed c.in-Some.flat c.in-Some.ensures.failed;
       follower = refl;

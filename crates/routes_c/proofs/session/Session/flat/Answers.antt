@@ -8,7 +8,7 @@ pub returns : goal.returns
 returns c =
     record {
       answers = c.flat-2.ensures.answers;
-      made = subst (λ ps. MakesPieces c.args.self.now.kept c.flat-2.new.self ps c.flat-2.result) (flat_is (routes_of c.args.self.now.table) c.flat.result c.flat.ensures.flat) c.flat-2.ensures.list;
+      made = subst (λ ps. MakesPieces c.args.self.now.lists c.flat-2.new.self ps c.flat-2.result) (flat_is (routes_of c.args.self.now.table) c.flat.result c.flat.ensures.flat) c.flat-2.ensures.list;
       table = refl;
       reply = refl;
     }
