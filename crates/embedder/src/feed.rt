@@ -1,13 +1,13 @@
 //! A leader, a follower and an installer over memory.
 ghost use Rattle.std.specs.Prelude.{◌≡◌, ◌⊎◌, ◌++◌, ◌∷◌, [], ℕ, Bool, List, IfOk, codes, map, take};
 ghost use Rattle.ipnet_addr.specs.Addresses.{Address, IsAddress};
-ghost use Rattle.route_feed.specs.Installing.{AreNotes, Noted, begin, events};
-ghost use Rattle.route_feed.specs.InstallLaws.{HasSync, carried_out as table_of_lines, updates_in};
+ghost use Rattle.route_installer.specs.Installing.{AreNotes, Noted, begin, events};
+ghost use Rattle.route_installer.specs.Laws.{HasSync, carried_out as table_of_lines, updates_in};
 ghost use Rattle.route_feed.specs.Laws.{table_told};
 ghost use Rattle.route_feed.specs.Output.{output};
 ghost use Rattle.route_feed.specs.Replies.{printed};
 ghost use Rattle.route_feed.specs.Steps.{flat_line};
-ghost use Rattle.route_feed.specs.Streams.{committed, painted, replies_in};
+ghost use Rattle.route_feed.specs.Streams.{committed, painted_hop, replies_in};
 ghost use Rattle.route_lines.specs.Bytes.{lines};
 ghost use Rattle.route_lines.specs.declared.reply.Closing.TheVariants.{Done};
 ghost use Rattle.route_lines.specs.declared.reply.Reply.TheVariants.{Close};
@@ -16,8 +16,10 @@ ghost use Rattle.route_laws.specs.Networks.{routes_of};
 ghost use Rattle.route_laws.specs.Runs.{haves};
 ghost use Rattle.route_laws.specs.Tables.{hop_at};
 
-use route_feed::laws::{carried_out, followed, reply_lines};
-use route_feed::{Counted, RunError, follow, install, lead};
+use route_feed::laws::{followed, reply_lines};
+use route_feed::{Counted, RunError, follow, lead};
+use route_installer::install;
+use route_installer::laws::carried_out;
 use route_table::laws::one_route;
 use std::alloc::Global;
 
@@ -45,7 +47,7 @@ pub fn mirrored(alloc: Global, input: &[u8], cut: usize) -> Result<(Vec<u8>, Vec
 /// lines of a log, cut at any byte, have the changes of such lines.
 pub fn cut_anywhere()
     ensures { (bytes front back : List ℕ) (refusals : List Bool) → output bytes refusals ≡ front ++ back
-        → (x : Address) → IsAddress x → painted (committed (replies_in front)) x ≡ hop_at (routes_of (table_told bytes refusals front)) x }
+        → (x : Address) → IsAddress x → painted_hop (committed (replies_in front)) x ≡ hop_at (routes_of (table_told bytes refusals front)) x }
 {
     reply_lines();
 }

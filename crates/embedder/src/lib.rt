@@ -4,6 +4,7 @@
 
 pub mod feed;
 pub mod index;
+pub mod line_count;
 pub mod map;
 pub mod nearest;
 pub mod over_bytes;

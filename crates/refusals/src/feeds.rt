@@ -2,7 +2,8 @@
 use crate::fault::{Fault, made};
 use crate::show::{answer, begin, bytes, end, ended, ended_with, line, lines, part};
 use ipnet::{IpAddr, Ipv4Addr};
-use route_feed::{Counted, Follower, follow, install, lead, shorten};
+use route_feed::{Counted, Follower, follow, lead, shorten};
+use route_installer::install;
 use route_lines::{Command, FibUpdate, Line, LineCutter, Reply};
 use std::io::Stdin;
 

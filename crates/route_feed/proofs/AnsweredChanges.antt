@@ -37,11 +37,11 @@ use Rattle.route_laws.proofs.Changes.{changed_is_maximal, same_from_test, same_i
 use Rattle.route_laws.proofs.Networks.{at_cases, at_some, del_none, routes_are_table, routes_with, routes_without, stored_block, stored_choices}
 use Rattle.route_laws.proofs.Ordered.{put_itself}
 use Rattle.route_laws.proofs.Updates.{left_back, left_other}
-use Rattle.route_feed.specs.declared.counted.Counted.{Counted}
-use Rattle.route_feed.specs.declared.error.RunError.{RunError}
+use Rattle.route_program.specs.declared.counted.Counted.{Counted}
+use Rattle.route_program.specs.declared.error.RunError.{RunError}
 use Rattle.route_feed.specs.Replies.{printed}
 use Rattle.route_feed.specs.Steps.{change_line, change_lines, closed, is_too_many, may_refuse, accepted, step}
-use Rattle.route_feed.specs.Devices.{Closes}
+use Rattle.route_program.specs.Devices.{Closes}
 
 map_same : {A B : Type 0} (f g : A → B) (xs : List A) → ((x : A) → In x xs → f x ≡ g x) → map f xs ≡ map g xs
 map_same f g [] h = refl

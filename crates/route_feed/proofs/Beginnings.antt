@@ -25,7 +25,7 @@ use Rattle.route_feed.specs.Output.{replies, table_after, refusals_after, whole_
 use Rattle.route_feed.specs.Replies.{printed}
 use Rattle.route_feed.specs.Steps as steps
 use Rattle.route_feed.specs.Steps.{flat_line}
-use Rattle.route_feed.specs.Streams.{Change, ends_well, committed, closings, painted, replies_in}
+use Rattle.route_feed.specs.Streams.{Change, ends_well, committed, closings, painted_hop, replies_in}
 use Rattle.route_feed.proofs.ReadNets.{piece_in_range}
 use Rattle.route_feed.proofs.Replies.{form_step}
 use Rattle.route_feed.proofs.PrintedLines.{AreClean, AreTold, IsClean, IsKept, IsTold, Keeps, closing_is_clean, closing_is_kept, each-append, each-first, read_again, reread}
@@ -156,7 +156,7 @@ module _ (commands : List (Option Command)) (refusals : List Bool) (range : AreI
   commands_answered = ap closings output_read ∙ (same_read (replies [] commands refusals) lines_kept).closings ∙ all_closed [] commands refusals empty_is_table range
 
 pub followed : (bytes : List ℕ) (refusals : List Bool) (p q : List Reply) → p ++ q ≡ replies_in (output bytes refusals)
-    → (x : Address) → IsAddress x → painted (committed p) x ≡ hop_at (routes_of (table_after [] (take (closings p) (commands_of bytes)) refusals)) x
+    → (x : Address) → IsAddress x → painted_hop (committed p) x ≡ hop_at (routes_of (table_after [] (take (closings p) (commands_of bytes)) refusals)) x
 followed bytes refusals p q e x a =
     let (first, later, split, same) = first_again (commands_of bytes) refusals (all_in_range bytes) p q e in
     rw (same.committed, same.closings) (taken [] (commands_of bytes) refusals first later empty_is_table (all_in_range bytes) (sym split) x a)
@@ -182,7 +182,7 @@ beginnings_agree bytes front back refusals e x a = let (later, split) = first_re
 
 pub flat_lists_agree : FlatListsAgree
 flat_lists_agree bytes front back refusals e =
-    let h = painted (committed (replies_in front)) in
+    let h = painted_hop (committed (replies_in front)) in
     let g = hop_at (routes_of (table_told bytes refusals front)) in
     (same_flat h g (flat_of h) (flat_of g) (search_is_flat h) (search_is_flat g)).1 (beginnings_agree bytes front back refusals e)
 

@@ -12,13 +12,13 @@ use Rattle.route_lines.specs.declared.reply.Reply.{Reply}
 use Rattle.route_lines.specs.declared.reply.Reply.TheVariants.{Set, Unset, Route, Flat, Own, Count, Close}
 use Rattle.route_laws.specs.Networks.{routes_of}
 use Rattle.route_laws.specs.Tables.{hop_at}
-use Rattle.route_feed.specs.declared.counted.Counted.{Counted}
-use Rattle.route_feed.specs.declared.error.RunError.{RunError}
-use Rattle.route_feed.specs.declared.error.RunError.TheVariants as Why
+use Rattle.route_program.specs.declared.counted.Counted.{Counted}
+use Rattle.route_program.specs.declared.error.RunError.{RunError}
+use Rattle.route_program.specs.declared.error.RunError.TheVariants as Why
 use Rattle.route_feed.specs.Following.{State, TakesLine, hop_after}
 use Rattle.route_feed.specs.InnerLines.{reply_in}
 use Rattle.route_feed.specs.InnerFollowing.{FollowsLine, hop_once, AllReplies}
-use Rattle.route_feed.specs.InnerRun.{TakesAll}
+use Rattle.route_program.specs.Run.{TakesAll}
 use Rattle.route_feed.specs.Streams.{Change, change_of, closes, is_done, ends_well, committed, painted_over, pending_after}
 use Rattle.route_feed.proofs.Carried.{painted-append}
 

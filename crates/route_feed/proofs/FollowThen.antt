@@ -20,19 +20,19 @@ use Rattle.route_laws.specs.Networks.{routes_of}
 use Rattle.route_laws.specs.Tables.{hop_at}
 use Rattle.route_laws.proofs.FlatSearch.{search_is_flat}
 use Rattle.route_laws.proofs.Flats.{same_flat}
-use Rattle.route_feed.specs.declared.counted.Counted.{Counted}
-use Rattle.route_feed.specs.declared.error.RunError.{RunError}
-use Rattle.route_feed.specs.declared.error.RunError.TheVariants as Why
+use Rattle.route_program.specs.declared.counted.Counted.{Counted}
+use Rattle.route_program.specs.declared.error.RunError.{RunError}
+use Rattle.route_program.specs.declared.error.RunError.TheVariants as Why
 use Rattle.route_feed.specs.Following.{State}
 use Rattle.route_feed.specs.Follows.{AreReplies, followed, FollowEnds}
 use Rattle.route_feed.specs.InnerFollowing.{hop_once, AllReplies}
 use Rattle.route_feed.specs.InnerLines.{reply_in}
 use Rattle.route_feed.specs.InnerReaching.{Reached, Stops}
-use Rattle.route_feed.specs.InnerRun.{Runs, TakesAll}
+use Rattle.route_program.specs.Run.{Runs, TakesAll}
 use Rattle.route_feed.specs.Replies.{printed}
 use Rattle.route_feed.specs.Steps.{flat_line}
-use Rattle.route_feed.specs.Streams.{Change, ends_well, committed, painted, painted_over, pending_over, replies_in, WantsMemory}
-use Rattle.route_feed.specs.Devices.{Closes}
+use Rattle.route_feed.specs.Streams.{Change, ends_well, committed, painted_hop, painted_over, pending_over, replies_in, WantsMemory}
+use Rattle.route_program.specs.Devices.{Closes}
 use Rattle.route_feed.proofs.ReadLines.{of_replies, piece_spells}
 use Rattle.route_feed.proofs.FollowLines.{Followed, Takes, followed_all, not_all, unwritten, no_read, no_write}
 
@@ -98,17 +98,17 @@ abbrev pub new_state : State
 new_state = record { table = []; pending = []; failed = false }
 
 -- the hops are those that the committed changes paint
-hops_are : (bs : List ℕ) (b : State) → Followed new_state (lines_in bs) b → (x : Address) → IsAddress x → hop_at (routes_of b.table) x ≡ painted (committed (replies_in bs)) x
+hops_are : (bs : List ℕ) (b : State) → Followed new_state (lines_in bs) b → (x : Address) → IsAddress x → hop_at (routes_of b.table) x ≡ painted_hop (committed (replies_in bs)) x
 hops_are bs b p x h =
     sym (p.same [] x h)
     ∙ ap (λ ls. hop_once new_state ls x) (append-nil (filter_map reply_in (lines_in bs)) ∙ lines_replies (lines bs))
     ∙ ap (λ l. painted_over None (l ++ committed (replies_in bs)) x) (no_pending (ends_well (replies_in bs)))
 
 -- so is the flat list
-text_is : (bs : List ℕ) (b : State) → ((x : Address) → IsAddress x → hop_at (routes_of b.table) x ≡ painted (committed (replies_in bs)) x)
+text_is : (bs : List ℕ) (b : State) → ((x : Address) → IsAddress x → hop_at (routes_of b.table) x ≡ painted_hop (committed (replies_in bs)) x)
     → (ps : List Piece) → IsFlat (hop_at (routes_of b.table)) ps → printed (map flat_line ps ++ Close Done ∷ []) ≡ followed bs
 text_is bs b hops ps flat =
-    let h = painted (committed (replies_in bs)) in
+    let h = painted_hop (committed (replies_in bs)) in
     ap (λ qs. printed (map flat_line qs ++ Close Done ∷ [])) ((same_flat (hop_at (routes_of b.table)) h ps (flat_of h) flat (search_is_flat h)).1 hops)
 
 -- ---- a run of a new follower

@@ -81,7 +81,7 @@ module _ (M : List Stored) where
   same_length : length M ≤ length M + 1
   same_length = omega arith
 
-  found_length : (o : Option Route) → length (option_map_or (λ r. steps.told M (steps.route_line r ∷ [])) o (steps.closed M Missing)).next ≤ length M + 1
+  found_length : (o : Option Route) → length (option_map_or (λ r. steps.listed M (steps.route_line r ∷ [])) o (steps.closed M Missing)).next ≤ length M + 1
   found_length None = same_length
   found_length (Some r) = same_length
 
@@ -125,7 +125,7 @@ small_or true t u h k = h
 small_or false t u h k = k
 
 module _ (M : List Stored) (few : length M < 2 ^ 64) where
-  found_small : (o : Option Route) → AreSmall (option_map_or (λ r. steps.told M (steps.route_line r ∷ [])) o (steps.closed M Missing)).body
+  found_small : (o : Option Route) → AreSmall (option_map_or (λ r. steps.listed M (steps.route_line r ∷ [])) o (steps.closed M Missing)).body
   found_small None = tt
   found_small (Some r) = (tt, tt)
 

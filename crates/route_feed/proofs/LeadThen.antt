@@ -14,22 +14,22 @@ use Rattle.route_lines.specs.declared.cutter.Line.{Line}
 use Rattle.route_lines.specs.declared.cutter.Rest.{Rest}
 use Rattle.route_lines.specs.declared.cutter.Rest.TheVariants.{Held}
 use Rattle.route_laws.specs.Networks.{Stored}
-use Rattle.route_feed.specs.declared.counted.Counted.{Counted}
-use Rattle.route_feed.specs.declared.error.RunError.{RunError}
-use Rattle.route_feed.specs.declared.error.RunError.TheVariants as Why
-use Rattle.route_feed.specs.Counted.{CanCount, more_by}
+use Rattle.route_program.specs.declared.counted.Counted.{Counted}
+use Rattle.route_program.specs.declared.error.RunError.{RunError}
+use Rattle.route_program.specs.declared.error.RunError.TheVariants as Why
+use Rattle.route_program.specs.Counted.{CanCount, more_by}
 use Rattle.route_feed.specs.InnerReplies.{replies_to_rest, reply_to_rest}
 use Rattle.route_feed.specs.InnerLines.{command_in, reply_line}
-use Rattle.route_feed.specs.InnerRun.{TakesAll, Runs}
+use Rattle.route_program.specs.Run.{TakesAll, Runs}
 use Rattle.route_feed.specs.LeadsLine.{Answers}
 use Rattle.route_feed.specs.Leads.{LeadEnds, Stopped}
 use Rattle.route_feed.specs.Output.{replies, refusals_after, whole_commands, at_end, lines_output, output}
 use Rattle.route_feed.specs.Replies.{printed}
 use Rattle.route_feed.specs.Steps.{step, may_refuse, answer_lines}
-use Rattle.route_feed.specs.Devices.{Closed, Closes, Torn}
+use Rattle.route_program.specs.Devices.{Closed, Closes, Torn}
 use Rattle.route_feed.proofs.ReadNets.{commands_in}
 use Rattle.route_feed.proofs.Beginnings.{all_answered, commands_of, lines_answered}
-use Rattle.route_feed.proofs.Written.{Closed-nil, Closed-after}
+use Rattle.route_program.proofs.Written.{Closed-nil, Closed-after}
 
 -- the refusals of one command
 abbrev refusals_of : Bool → Bool → List Bool

@@ -26,7 +26,7 @@ use Rattle.route_feed.specs.AddLines.{add_lines}
 use Rattle.route_feed.specs.Laws.{LinesKeepHops, LinesRebuild, LinesStayLeast, NoHopsNoLines, ShortenedAgree, alone, table_given}
 use Rattle.route_feed.specs.Output.{at_end, table_after, whole_commands}
 use Rattle.route_feed.specs.Steps.{Answer, is_too_many, may_refuse, step}
-use Rattle.route_feed.specs.Streams.{committed, painted, replies_in}
+use Rattle.route_feed.specs.Streams.{committed, painted_hop, replies_in}
 use Rattle.route_feed.specs.InnerLines.{add_command}
 use Rattle.route_feed.proofs.Beginnings.{beginnings_agree}
 use Rattle.route_feed.proofs.Values.{empty_is_table}
@@ -133,7 +133,7 @@ lines_stay_least h N least = record {
 
 pub shortened_agree : ShortenedAgree
 shortened_agree bytes front back refusals N e least x a =
-    (lines_keep_hops (painted (committed (replies_in front))) N least.hops).same x a ∙ beginnings_agree bytes front back refusals e x a
+    (lines_keep_hops (painted_hop (committed (replies_in front))) N least.hops).same x a ∙ beginnings_agree bytes front back refusals e x a
 
 no_routes : (N : List Route) → length N ≤ 0 → N ≡ []
 no_routes [] h = refl

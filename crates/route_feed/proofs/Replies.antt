@@ -28,7 +28,7 @@ use Rattle.route_laws.proofs.Matches.{AtLeast, best_of}
 use Rattle.route_laws.proofs.ChoiceChanges.{choices_have_one_hop}
 use Rattle.route_laws.proofs.Networks.{at_are, routes_are_table, stored_choices, with_choices_is}
 use Rattle.route_feed.proofs.Owned.{map_twice}
-use Rattle.route_feed.specs.Steps.{Answer, closed, told, change_line, change_lines, changed_to, route_line, flat_line, is_too_many, may_refuse, accepted, step}
+use Rattle.route_feed.specs.Steps.{Answer, closed, listed, change_line, change_lines, changed_to, route_line, flat_line, is_too_many, may_refuse, accepted, step}
 use Rattle.route_feed.specs.Streams.{Change, change_of, is_done, painted_over}
 use Rattle.route_feed.specs.InnerReplies.{choice_line, own_line}
 use Rattle.route_feed.specs.Laws.{IsInRange}
@@ -76,7 +76,7 @@ module _ (M : List Stored) (m : IsStoredTable M) where
     table = m;
   }
 
-  form_told : (ls : List Reply) → AreTold ls → changes_in ls ≡ [] → Form M (told M ls)
+  form_told : (ls : List Reply) → AreTold ls → changes_in ls ≡ [] → Form M (listed M ls)
   form_told ls h e = record { body_told = h; paints = λ x a. ap (λ cs. painted_over (hop_at routes x) cs x) e; table = m }
 
   form_changed : (N : List Stored) → IsStoredTable N → (one : Option ℕ)
@@ -100,11 +100,11 @@ module _ (M : List Stored) (m : IsStoredTable M) where
       let small = subst (λ (s : Route). s.pref < 2 ^ 16) (sym t.2) (small_best t.0.choices (stored_choices M m t.0 t.1)) in
       route_told r.block r.hop r.pref (In-from_All (λ s. IsBlock s.block) routes best.blocks r i) (In-from_All (λ s. IsHop s.hop) routes best.hops r i) small
 
-  form_routes : (rs : List Route) → ((r : Route) → In r rs → In r routes) → Form M (told M (map route_line rs))
+  form_routes : (rs : List Route) → ((r : Route) → In r rs → In r routes) → Form M (listed M (map route_line rs))
   form_routes rs h = form_told (map route_line rs) (AreTold-map route_line rs (λ r i. member_told r (h r i))) (no_changes route_line (λ r. refl) rs)
 
   -- all choices of a block
-  form_all : (b : Block) → IsBlock b → Form M (told M (map (choice_line b) (choices_at M b)))
+  form_all : (b : Block) → IsBlock b → Form M (listed M (map (choice_line b) (choices_at M b)))
   form_all b ok =
       let cs = choices_at M b in
       let are = at_are M m b in
@@ -112,34 +112,34 @@ module _ (M : List Stored) (m : IsStoredTable M) where
       (AreTold-map (choice_line b) cs (λ c i. route_told b c.hop c.pref ok (In-from_All (λ d. IsHop d.hop) cs are.hops c i) (In-from_All (λ d. d.pref < 2 ^ 16) cs are.prefs c i)))
       (no_changes (choice_line b) (λ c. refl) cs)
 
-  form_filtered : (p : Route → Bool) → Form M (told M (map route_line (filter p routes)))
+  form_filtered : (p : Route → Bool) → Form M (listed M (map route_line (filter p routes)))
   form_filtered p = form_routes (filter p routes) (λ r i. (In-from_filter p routes r i).0)
 
-  form_page : (limit : ℕ) (p : Route → Bool) → Form M (told M (map route_line (take limit (filter p routes))))
+  form_page : (limit : ℕ) (p : Route → Bool) → Form M (listed M (map route_line (take limit (filter p routes))))
   form_page limit p = form_routes (take limit (filter p routes)) (λ r i. (In-from_filter p routes r (In-take limit (filter p routes) r i)).0)
 
-  form_match : (n : Block) → Form M (option_map_or (λ r. told M (route_line r ∷ [])) (match_of routes n) (closed M Missing))
+  form_match : (n : Block) → Form M (option_map_or (λ r. listed M (route_line r ∷ [])) (match_of routes n) (closed M Missing))
   form_match n = go (match_of routes n) (best_of (covering routes n))
     where
-      go : (o : Option Route) → MatchOption o ((s : Route) → In s (covering routes n) → ⊥) (λ s. AtLeast s (covering routes n)) → Form M (option_map_or (λ r. told M (route_line r ∷ [])) o (closed M Missing))
+      go : (o : Option Route) → MatchOption o ((s : Route) → In s (covering routes n) → ⊥) (λ s. AtLeast s (covering routes n)) → Form M (option_map_or (λ r. listed M (route_line r ∷ [])) o (closed M Missing))
       go None h = form_closed Missing
       go (Some r) h = form_routes (r ∷ []) (λ s i. ⊎_elim (λ e. subst (λ (t : Route). In t routes) (sym e) (In-from_filter _ routes r h.0).0) (λ none. absurd none) i)
 
   -- lines of some blocks of the flat list
   form_pieces : (line : Piece → Reply) → ((p : Piece) → change_of (line p) ≡ None) → ((p : Piece) → IsWithin (λ x. hop_at routes x ≡ Some p.number) p.block → IsTold (line p))
-      → (ps : List Piece) → ((p : Piece) → In p ps → In p (flat_of (hop_at routes))) → Form M (told M (map line ps))
+      → (ps : List Piece) → ((p : Piece) → In p ps → In p (flat_of (hop_at routes))) → Form M (listed M (map line ps))
   form_pieces line none one ps member = form_told (map line ps) (AreTold-map line ps (λ p i. one p (within p (member p i)))) (no_changes line none ps)
     where
       within : (p : Piece) → In p (flat_of (hop_at routes)) → IsWithin (λ x. hop_at routes x ≡ Some p.number) p.block
       within p i = (((search_is_flat (hop_at routes)).exact p).0 (Contains-from_In (flat_of (hop_at routes)) p i)).within
 
-  form_flat : Form M (told M (map flat_line (flat_of (hop_at routes))))
+  form_flat : Form M (listed M (map flat_line (flat_of (hop_at routes))))
   form_flat = form_pieces flat_line (λ p. refl) (λ p w. piece_told routes best p.block p.number w.block (w.all (first_of p.block) (has_first p.block))) (flat_of (hop_at routes)) (λ p i. i)
 
-  form_owned : (number : ℕ) → Form M (told M (map own_line (blocks_of (filter (λ p. p.number == number) (flat_of (hop_at routes))))))
+  form_owned : (number : ℕ) → Form M (listed M (map own_line (blocks_of (filter (λ p. p.number == number) (flat_of (hop_at routes))))))
   form_owned number =
       let ps = filter (λ (p : Piece). p.number == number) (flat_of (hop_at routes)) in
-      subst (λ ls. Form M (told M ls)) (map_twice own_line (λ (p : Piece). p.block) ps)
+      subst (λ ls. Form M (listed M ls)) (map_twice own_line (λ (p : Piece). p.block) ps)
       (form_pieces (λ p. own_line p.block) (λ p. refl) (λ p w. own_told p.block w.block) ps (λ p i. (In-from_filter _ (flat_of (hop_at routes)) p i).0))
 
   form_answer : (command : Option Command) → IsInRange command → is_too_many M command ≡ false → Form M (accepted M command)

@@ -1,4 +1,4 @@
--- Worked rows: the line that adds the route of a table, and the table that is made of it; a session of an installer.
+-- Worked rows: the line that adds the route of a table, and the table that is made of it.
 use Rattle.std.proofs.Common.{◌≡◌, ◌∙◌, ⊎_elim, List, [], ◌∷◌, refl, sym, ap, subst, arith, decimal, codes}
 use Rattle.std.proofs.lemmas.Fmt.{decimal_digit, decimal_step}
 use Rattle.ipnet_addr.specs.Addresses.{Ipv4}
@@ -8,17 +8,12 @@ use Rattle.route_laws.specs.LeastTables.{HasHops}
 use Rattle.route_laws.specs.Networks.{routes_of}
 use Rattle.route_laws.specs.Tables.{Route, IsTable, hop_at}
 use Rattle.route_laws.proofs.Insides.{Sound, table_of}
-use Rattle.ipnet.specs.IpNets.{network_at}
-use Rattle.route_lines.specs.declared.fib_input.FibInput.TheVariants as N
-use Rattle.route_lines.specs.declared.reply.Closing.TheVariants.{Done}
-use Rattle.route_lines.specs.declared.reply.Reply.TheVariants as R
 use Rattle.route_feed.specs.AddLines.{add_lines}
-use Rattle.route_feed.specs.Installing.{Noted, batches_given, installed_bytes}
 use Rattle.route_feed.specs.Laws.{table_given}
 use Rattle.route_feed.proofs.Rebuilt.{lines_keep_hops, lines_rebuild}
 
 -- 10.0.0.0/8
-abbrev ten : Block
+abbrev pub ten : Block
 ten = record { family = Ipv4; len = 8; quotient = 10 }
 
 -- 10.0.0.0/8 7 with the preference 200
@@ -30,10 +25,10 @@ is_table = table_of table
     (λ r i. ⊎_elim (λ e. subst Sound (sym e) (record { in_width = omega arith; in_range = omega arith }, omega arith)) (λ j. absurd j) i)
     ((λ r i. absurd i), tt)
 
-seven_text : decimal 7 ≡ codes "7"
+pub seven_text : decimal 7 ≡ codes "7"
 seven_text = decimal_digit 7 (omega arith)
 
-ten_text : decimal 10 ≡ codes "10"
+pub ten_text : decimal 10 ≡ codes "10"
 ten_text = decimal_step 10 (omega arith) (omega arith) ∙ rw (decimal_digit 1 (omega arith)) refl
 
 line_row : add_lines table ≡ codes "add 10.0.0.0/8 7\n"
@@ -46,27 +41,3 @@ table_row = ap table_given (sym line_row) ∙ lines_rebuild table is_table
 -- and the hops
 hops_row : HasHops (hop_at table) (routes_of (table_given (codes "add 10.0.0.0/8 7\n")))
 hops_row = subst (λ bytes. HasHops (hop_at table) (routes_of (table_given bytes))) line_row (lines_keep_hops (hop_at table) table (record { table = is_table; same = λ x a. refl }))
-
--- ---- a session of an installer
-
--- 10.0.0.0/8 7, with the default preference
-abbrev seven : Route
-seven = record { block = ten; hop = Number 7; pref = 100 }
-
--- `have 10.0.0.0/8 1`, `set 10.0.0.0/8 7`, `ok`, `sync`, `unset 10.0.0.0/8`, `ok`
-abbrev session : List Noted
-session =
-    record { note = N.Have (network_at ten) (Number 1); table = [] }
-    ∷ record { note = N.Reply (R.Set (network_at ten) 7); table = [] }
-    ∷ record { note = N.Reply (R.Close Done); table = [] }
-    ∷ record { note = N.Sync; table = seven ∷ [] }
-    ∷ record { note = N.Reply (R.Unset (network_at ten)); table = [] }
-    ∷ record { note = N.Reply (R.Close Done); table = [] }
-    ∷ []
-
-session_row : installed_bytes session ≡ codes "install 10.0.0.0/8 7\nok\nremove 10.0.0.0/8\nok\n"
-session_row = rw (ten_text, decimal_digit 8 (omega arith), seven_text, decimal_digit 0 (omega arith)) refl
-
--- both are batches
-batches_row : batches_given session ≡ 2
-batches_row = refl

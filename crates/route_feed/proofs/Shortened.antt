@@ -7,16 +7,16 @@ use Rattle.route_laws.specs.LeastTables.{IsLeast}
 use Rattle.route_laws.specs.Networks.{routes_of}
 use Rattle.route_laws.specs.Tables.{Route, hop_at}
 use Rattle.route_laws.proofs.Families.{least_too}
-use Rattle.route_feed.specs.declared.counted.Counted.{Counted}
-use Rattle.route_feed.specs.declared.error.RunError.{RunError}
-use Rattle.route_feed.specs.declared.error.RunError.TheVariants as Why
+use Rattle.route_program.specs.declared.counted.Counted.{Counted}
+use Rattle.route_program.specs.declared.error.RunError.{RunError}
+use Rattle.route_program.specs.declared.error.RunError.TheVariants as Why
 use Rattle.route_feed.specs.AddLines.{add_lines}
 use Rattle.route_feed.specs.Following.{State}
 use Rattle.route_feed.specs.Follows.{AreReplies}
 use Rattle.route_feed.specs.InnerReaching.{Reached, Stops}
-use Rattle.route_feed.specs.InnerReplies.{Delivers}
+use Rattle.route_program.specs.Devices.{Delivers}
 use Rattle.route_feed.specs.Shortens.{AppendsLeast, IsLeastFor, ShortenEnds}
-use Rattle.route_feed.specs.Streams.{committed, painted, replies_in}
+use Rattle.route_feed.specs.Streams.{committed, painted_hop, replies_in}
 
 module _ {R W : Type 0} (remaining : R → Option (List ℕ)) (contents : W → Option (List ℕ)) (from to : Counted R) (old : Counted W) where
   pub shorten_stopped : (e : RunError) (new : Counted W) → Stops remaining from to e × (new ≡ old) → ShortenEnds remaining contents from to old new (Err e)
@@ -41,7 +41,7 @@ module _ {R W : Type 0} (remaining : R → Option (List ℕ)) (contents : W → 
         end = x.0
 
         is_least : IsLeastFor end.bytes routes
-        is_least = least_too (hop_at (routes_of b.table)) (painted (committed (replies_in end.bytes))) end.hops routes least
+        is_least = least_too (hop_at (routes_of b.table)) (painted_hop (committed (replies_in end.bytes))) end.hops routes least
 
         go : (k : Result Unit RunError) → Delivers contents old new k (add_lines routes) → ShortenEnds remaining contents from to old new k
         go (Ok done) q = (record { bytes = end.bytes; read = end.read; holds = (end.replies, (routes, is_least, q)) }, end.at_end, end.faults)

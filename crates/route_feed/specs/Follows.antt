@@ -7,14 +7,14 @@ use Rattle.route_lines.specs.declared.reply.Closing.TheVariants.{Done}
 use Rattle.route_lines.specs.declared.reply.Reply.{Reply}
 use Rattle.route_lines.specs.declared.reply.Reply.TheVariants.{Close}
 use Rattle.route_laws.specs.Flats.{flat_of}
-use Rattle.route_feed.specs.declared.counted.Counted.{Counted}
-use Rattle.route_feed.specs.declared.error.RunError.{RunError}
-use Rattle.route_feed.specs.declared.error.RunError.TheVariants as Why
-use Rattle.route_feed.specs.Devices.{Closed, HasRead, HasReadAll, Torn}
-use Rattle.route_feed.specs.Counted.{ReadFault}
+use Rattle.route_program.specs.declared.counted.Counted.{Counted}
+use Rattle.route_program.specs.declared.error.RunError.{RunError}
+use Rattle.route_program.specs.declared.error.RunError.TheVariants as Why
+use Rattle.route_program.specs.Devices.{Closed, HasRead, HasReadAll, Torn}
+use Rattle.route_program.specs.Counted.{ReadFault}
 use Rattle.route_feed.specs.Replies.{printed}
 use Rattle.route_feed.specs.Steps.{flat_line}
-use Rattle.route_feed.specs.Streams.{committed, painted, pending_over, replies_in, WantsMemory}
+use Rattle.route_feed.specs.Streams.{committed, painted_hop, pending_over, replies_in, WantsMemory}
 
 -- each piece is a reply line
 abbrev pub AreReplies : List (List ℕ) → Type 0
@@ -33,7 +33,7 @@ pub record MeetsWant (pieces : List (List ℕ)) : Type 0 where
 
 -- the printed flat list of the hops after the committed changes, and `ok`
 abbrev pub followed : List ℕ → List ℕ
-followed bytes = printed (map flat_line (flat_of (painted (committed (replies_in bytes)))) ++ Close Done ∷ [])
+followed bytes = printed (map flat_line (flat_of (painted_hop (committed (replies_in bytes)))) ++ Close Done ∷ [])
 
 -- the reader returned some bytes, and one of their lines isn't a reply line
 abbrev pub MeetsAnother : {R : Type 0} → (R → Option (List ℕ)) → Counted R → Counted R → Type 0

@@ -5,8 +5,8 @@ use Rattle.route_lines.specs.declared.cutter.Line.{Line}
 use Rattle.route_lines.specs.declared.reply.Reply.{Reply}
 use Rattle.route_laws.specs.Networks.{routes_of}
 use Rattle.route_laws.specs.Tables.{hop_at}
-use Rattle.route_feed.specs.declared.error.RunError.{RunError}
-use Rattle.route_feed.specs.declared.error.RunError.TheVariants as Why
+use Rattle.route_program.specs.declared.error.RunError.{RunError}
+use Rattle.route_program.specs.declared.error.RunError.TheVariants as Why
 use Rattle.route_feed.specs.InnerLines.{reply_in}
 use Rattle.route_feed.specs.Following.{State, TakesLine}
 use Rattle.route_feed.specs.Streams.{committed, ends_well, painted_over, WantsMemory}

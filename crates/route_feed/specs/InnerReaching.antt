@@ -5,14 +5,14 @@ use Rattle.ipnet_addr.specs.Addresses.{Address, IsAddress}
 use Rattle.route_lines.specs.Bytes.{lines}
 use Rattle.route_laws.specs.Networks.{routes_of}
 use Rattle.route_laws.specs.Tables.{hop_at}
-use Rattle.route_feed.specs.declared.counted.Counted.{Counted}
-use Rattle.route_feed.specs.declared.error.RunError.{RunError}
-use Rattle.route_feed.specs.declared.error.RunError.TheVariants as Why
-use Rattle.route_feed.specs.Counted.{ReadFault}
+use Rattle.route_program.specs.declared.counted.Counted.{Counted}
+use Rattle.route_program.specs.declared.error.RunError.{RunError}
+use Rattle.route_program.specs.declared.error.RunError.TheVariants as Why
+use Rattle.route_program.specs.Counted.{ReadFault}
 use Rattle.route_feed.specs.Following.{State}
-use Rattle.route_feed.specs.Devices.{HasRead}
+use Rattle.route_program.specs.Devices.{HasRead}
 use Rattle.route_feed.specs.Follows.{AreReplies, MeetsAnother, MeetsWant}
-use Rattle.route_feed.specs.Streams.{committed, painted, replies_in}
+use Rattle.route_feed.specs.Streams.{committed, painted_hop, replies_in}
 
 module _ {R : Type 0} (remaining : R → Option (List ℕ)) where
   -- all was read, each line is a reply line, and the follower has the hops after the committed changes
@@ -20,7 +20,7 @@ module _ {R : Type 0} (remaining : R → Option (List ℕ)) where
     pub bytes : List ℕ
     pub read : Consumes (remaining from.device) (remaining to.device) bytes
     pub replies : AreReplies (lines bytes)
-    pub hops : (x : Address) → IsAddress x → hop_at (routes_of follower.table) x ≡ painted (committed (replies_in bytes)) x
+    pub hops : (x : Address) → IsAddress x → hop_at (routes_of follower.table) x ≡ painted_hop (committed (replies_in bytes)) x
     pub at_end : IsAtEnd (remaining to.device)
     pub faults : to.faults ≡ from.faults
 

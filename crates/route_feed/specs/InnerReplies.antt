@@ -1,6 +1,5 @@
 -- The writing of replies.
-use Rattle.std.specs.Prelude.{◌≡◌, ℕ, Bool, ◌||◌, List, [], ◌∷◌, ◌++◌, map, Option, Some, is_some, slice_get, Result, Ok, Err, MatchOption}
-use Rattle.std.specs.Io.KnownBytes.{Appends}
+use Rattle.std.specs.Prelude.{◌≡◌, ℕ, List, [], ◌∷◌, ◌++◌, map, Option, Some, Result, MatchOption}
 use Rattle.ipnet.specs.IpNets.{network_at}
 use Rattle.ipnet_blocks.specs.Blocks.{Block}
 use Rattle.ipnet_blocks.specs.Maximal.{IsMaximal}
@@ -13,11 +12,10 @@ use Rattle.route_lines.specs.declared.reply.Reply.TheVariants.{Close, Own, Route
 use Rattle.route_choices.specs.Choices.{Choice}
 use Rattle.route_laws.specs.Networks.{Stored, routes_of}
 use Rattle.route_laws.specs.Tables.{Governed}
-use Rattle.route_feed.specs.declared.counted.Counted.{Counted}
-use Rattle.route_feed.specs.declared.error.RunError.{RunError}
-use Rattle.route_feed.specs.declared.error.RunError.TheVariants.{Write}
+use Rattle.route_program.specs.declared.counted.Counted.{Counted}
+use Rattle.route_program.specs.declared.error.RunError.{RunError}
 use Rattle.route_feed.specs.InnerLines.{reply_line}
-use Rattle.route_feed.specs.Devices.{Closes, Delivered, Torn}
+use Rattle.route_program.specs.Devices.{Closes}
 use Rattle.route_feed.specs.Replies.{printed}
 use Rattle.route_feed.specs.Steps.{change_line}
 
@@ -29,32 +27,11 @@ choice_line b c = Route (network_at b) c.hop (Some c.pref)
 abbrev pub own_line : Block → Reply
 own_line b = Own (network_at b)
 
--- the test that a text isn't empty
-abbrev pub has_bytes : List ℕ → Bool
-has_bytes text = is_some (slice_get text 0)
-
 -- the first line was returned, and it can be printed, or none was left
 abbrev pub GivesLine : List Reply → Option Reply → List Reply → Type 0
 GivesLine lines line left = MatchOption line ((lines ≡ []) × (left ≡ [])) (λ l. (lines ≡ l ∷ left) × IsPrintable l)
 
 module _ {W : Type 0} (contents : W → Option (List ℕ)) where
-  -- the text was written, and isn't flushed yet
-  pub record Written (old new : Counted W) (text : List ℕ) : Type 0 where
-    pub appended : Appends (contents old.device) (contents new.device) text
-    pub faults : new.faults ≡ old.faults
-    pub flushes : new.flushes ≡ old.flushes
-    pub waits : new.waiting ≡ (has_bytes text || old.waiting)
-
-  -- the text was written; or a beginning of it was, and then the writer failed
-  abbrev pub Writes : {T : Type 0} → Counted W → Counted W → Result T RunError → List ℕ → Type 0
-  Writes old new (Ok x) text = Written old new text
-  Writes old new (Err e) text = (e ≡ Write) × Torn contents old new text
-
-  -- the text was written and flushed; or a beginning of it was written, and then the writer failed
-  abbrev pub Delivers : {T : Type 0} → Counted W → Counted W → Result T RunError → List ℕ → Type 0
-  Delivers old new (Ok x) text = Delivered contents old new text
-  Delivers old new (Err e) text = (e ≡ Write) × Torn contents old new text
-
   -- a line for each block that a network governs, with its new hop, and `ok` were written and flushed; or a beginning was written
   abbrev pub TellsGoverned : List Stored → Block → Option ℕ → Counted W → Counted W → Result Unit RunError → Type 0
   TellsGoverned M b now old new result =

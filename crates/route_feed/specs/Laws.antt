@@ -24,7 +24,7 @@ use Rattle.route_feed.specs.Replies.{printed}
 use Rattle.route_feed.specs.Steps.{change_line, change_lines, flat_line}
 use Rattle.route_feed.specs.Shortens.{IsLeastFor}
 use Rattle.route_feed.specs.Output.{replies, table_after, whole_commands, at_end, output}
-use Rattle.route_feed.specs.Streams.{closings, committed, painted, replies_in}
+use Rattle.route_feed.specs.Streams.{closings, committed, painted_hop, replies_in}
 
 -- ---- by values
 
@@ -39,7 +39,7 @@ IsInRange command = Unit {0}
 abbrev pub LinesAgree : Type 0
 LinesAgree = (commands : List (Option Command)) (refusals : List Bool) (front back : List Reply) → All IsInRange commands
     → replies [] commands refusals ≡ front ++ back
-    → (x : Address) → IsAddress x → painted (committed front) x ≡ hop_at (routes_of (table_after [] (take (closings front) commands) refusals)) x
+    → (x : Address) → IsAddress x → painted_hop (committed front) x ≡ hop_at (routes_of (table_after [] (take (closings front) commands) refusals)) x
 
 -- the lines of a change: the maximal blocks of the addresses whose hop changes, each with the hop that all its addresses have then
 abbrev pub AreChangeLines : List Route → List Route → List Reply → Type 0
@@ -79,12 +79,12 @@ table_told bytes refusals front = table_after [] (take (closings (replies_in fro
 -- a follower of any beginning of the output has the same hop for each address as this table
 abbrev pub BeginningsAgree : Type 0
 BeginningsAgree = (bytes front back : List ℕ) (refusals : List Bool) → output bytes refusals ≡ front ++ back
-    → (x : Address) → IsAddress x → painted (committed (replies_in front)) x ≡ hop_at (routes_of (table_told bytes refusals front)) x
+    → (x : Address) → IsAddress x → painted_hop (committed (replies_in front)) x ≡ hop_at (routes_of (table_told bytes refusals front)) x
 
 -- so a follower of any beginning of the output has the flat list of that table
 abbrev pub FlatListsAgree : Type 0
 FlatListsAgree = (bytes front back : List ℕ) (refusals : List Bool) → output bytes refusals ≡ front ++ back
-    → flat_of (painted (committed (replies_in front))) ≡ flat_of (hop_at (routes_of (table_told bytes refusals front)))
+    → flat_of (painted_hop (committed (replies_in front))) ≡ flat_of (hop_at (routes_of (table_told bytes refusals front)))
 
 -- each line of the input, and the rest if there is one, has a reply that ends with one closing line
 abbrev pub AllAreAnswered : Type 0
@@ -135,7 +135,7 @@ ShortenedAgree = (bytes front back : List ℕ) (refusals : List Bool) (N : List 
 -- a leader that is given the line `add NET HOP` for each line of a follower's flat list has the follower's hops
 abbrev pub RestartedAgree : Type 0
 RestartedAgree = (bytes front back : List ℕ) (refusals : List Bool) → output bytes refusals ≡ front ++ back
-    → (x : Address) → IsAddress x → hop_at (routes_of (table_given (add_lines (map route_for (flat_of (painted (committed (replies_in front)))))))) x ≡ hop_at (routes_of (table_told bytes refusals front)) x
+    → (x : Address) → IsAddress x → hop_at (routes_of (table_given (add_lines (map route_for (flat_of (painted_hop (committed (replies_in front)))))))) x ≡ hop_at (routes_of (table_told bytes refusals front)) x
 
 -- the tables of a leader are valid tables of networks
 abbrev pub ToldIsTable : Type 0
@@ -143,4 +143,4 @@ ToldIsTable = (bytes front : List ℕ) (refusals : List Bool) → IsStoredTable 
 
 -- if no address has a hop, there are no lines
 abbrev pub NoHopsNoLines : Type 0
-NoHopsNoLines = (bytes : List ℕ) (N : List Route) → ((x : Address) → IsAddress x → painted (committed (replies_in bytes)) x ≡ None) → IsLeastFor bytes N → add_lines N ≡ []
+NoHopsNoLines = (bytes : List ℕ) (N : List Route) → ((x : Address) → IsAddress x → painted_hop (committed (replies_in bytes)) x ≡ None) → IsLeastFor bytes N → add_lines N ≡ []

@@ -4,11 +4,11 @@ use Rattle.std.specs.Io.KnownBytes.{Appends}
 use Rattle.route_lines.specs.Bytes.{rest}
 use Rattle.route_lines.specs.declared.command.Command.{Command}
 use Rattle.route_laws.specs.Networks.{Stored}
-use Rattle.route_feed.specs.declared.counted.Counted.{Counted}
-use Rattle.route_feed.specs.declared.error.RunError.{RunError}
-use Rattle.route_feed.specs.declared.error.RunError.TheVariants as Why
-use Rattle.route_feed.specs.Devices.{Closed, HasRead, HasReadAll}
-use Rattle.route_feed.specs.Counted.{more_by, FailedLast, ReadFault}
+use Rattle.route_program.specs.declared.counted.Counted.{Counted}
+use Rattle.route_program.specs.declared.error.RunError.{RunError}
+use Rattle.route_program.specs.declared.error.RunError.TheVariants as Why
+use Rattle.route_program.specs.Devices.{Closed, HasRead, HasReadAll}
+use Rattle.route_program.specs.Counted.{more_by, FailedLast, ReadFault}
 use Rattle.route_feed.specs.Output.{whole_commands, at_end, lines_output, output, replies}
 use Rattle.route_feed.specs.Replies.{printed}
 use Rattle.route_feed.specs.Streams.{closings, replies_in}

@@ -2,9 +2,9 @@
 use Rattle.std.specs.Prelude.{◌≡◌, ℕ, Bool, List, Option, Result}
 use Rattle.route_lines.specs.declared.command.Command.{Command}
 use Rattle.route_laws.specs.Networks.{Stored}
-use Rattle.route_feed.specs.declared.counted.Counted.{Counted}
-use Rattle.route_feed.specs.declared.error.RunError.{RunError}
-use Rattle.route_feed.specs.Devices.{Closes}
+use Rattle.route_program.specs.declared.counted.Counted.{Counted}
+use Rattle.route_program.specs.declared.error.RunError.{RunError}
+use Rattle.route_program.specs.Devices.{Closes}
 use Rattle.route_feed.specs.Replies.{printed}
 use Rattle.route_feed.specs.Steps.{step, answer_lines}
 

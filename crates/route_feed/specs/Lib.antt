@@ -1,6 +1,3 @@
-pub mod Counted
-pub mod Status
-pub mod Devices
 pub mod Replies
 pub mod Streams
 pub mod Steps
@@ -11,14 +8,9 @@ pub mod Following
 pub mod Follows
 pub mod AddLines
 pub mod Shortens
-pub mod Installing
-pub mod Installs
 pub mod Laws
-pub mod InstallLaws
 pub mod InnerLines
 pub mod InnerReplies
-pub mod InnerRun
 pub mod InnerWaiting
 pub mod InnerFollowing
 pub mod InnerReaching
-pub mod InnerInstalling

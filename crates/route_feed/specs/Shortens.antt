@@ -4,18 +4,18 @@ use Rattle.std.specs.Io.KnownBytes.{Appends, IsAtEnd}
 use Rattle.route_lines.specs.Bytes.{lines}
 use Rattle.route_laws.specs.LeastTables.{IsLeast}
 use Rattle.route_laws.specs.Tables.{Route}
-use Rattle.route_feed.specs.declared.counted.Counted.{Counted}
-use Rattle.route_feed.specs.declared.error.RunError.{RunError}
-use Rattle.route_feed.specs.declared.error.RunError.TheVariants as Why
+use Rattle.route_program.specs.declared.counted.Counted.{Counted}
+use Rattle.route_program.specs.declared.error.RunError.{RunError}
+use Rattle.route_program.specs.declared.error.RunError.TheVariants as Why
 use Rattle.route_feed.specs.AddLines.{add_lines}
-use Rattle.route_feed.specs.Devices.{Delivered, HasRead, HasReadAll, Torn}
-use Rattle.route_feed.specs.Counted.{ReadFault}
+use Rattle.route_program.specs.Devices.{Delivered, HasRead, HasReadAll, Torn}
+use Rattle.route_program.specs.Counted.{ReadFault}
 use Rattle.route_feed.specs.Follows.{AreReplies, MeetsAnother, MeetsWant}
-use Rattle.route_feed.specs.Streams.{committed, painted, replies_in}
+use Rattle.route_feed.specs.Streams.{committed, painted_hop, replies_in}
 
 -- a smallest table with the hops after the committed changes
 abbrev pub IsLeastFor : List ℕ → List Route → Type 0
-IsLeastFor bytes routes = IsLeast (painted (committed (replies_in bytes))) routes
+IsLeastFor bytes routes = IsLeast (painted_hop (committed (replies_in bytes))) routes
 
 -- the lines that add the routes of such a table were written
 abbrev pub AppendsLeast : List ℕ → Option (List ℕ) → Option (List ℕ) → Type 0

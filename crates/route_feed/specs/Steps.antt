@@ -34,8 +34,8 @@ abbrev pub closed : List Stored → Closing → Answer
 closed M closing = record { body = []; closing = closing; next = M }
 
 -- a reply of these lines and `ok`; the table is unchanged
-abbrev pub told : List Stored → List Reply → Answer
-told M lines = record { body = lines; closing = Done; next = M }
+abbrev pub listed : List Stored → List Reply → Answer
+listed M lines = record { body = lines; closing = Done; next = M }
 
 -- the line with the new hop of a block
 abbrev pub change_line : Option ℕ → Block → Reply
@@ -73,15 +73,15 @@ is_too_many M command = false
 abbrev pub accepted : List Stored → Option Command → Answer
 accepted M (Some (C.Add net hop pref)) = changed_to M (with_choice M (block net) (record { hop = hop; pref = pref }))
 accepted M (Some (C.Del net hop)) = if holds_hop (choices_at M (block net)) hop then changed_to M (without_choice M (block net) hop) else closed M Missing
-accepted M (Some (C.Get net)) = option_map_or (λ r. told M (route_line r ∷ [])) (match_of (routes_of M) (block net)) (closed M Missing)
-accepted M (Some (C.Cover net)) = told M (map route_line (covering (routes_of M) (block net)))
-accepted M (Some (C.List net)) = told M (map route_line (routes_inside (routes_of M) (block net)))
-accepted M (Some (C.All net)) = told M (map (λ c. Route (network_at (block net)) c.hop (Some c.pref)) (choices_at M (block net)))
-accepted M (Some (C.PageFrom net limit)) = told M (map route_line (take limit (routes_from (routes_of M) (block net))))
-accepted M (Some (C.PageAfter net limit)) = told M (map route_line (take limit (routes_after (routes_of M) (block net))))
-accepted M (Some (C.Own number)) = told M (map (λ b. Own (network_at b)) (blocks_of (filter (λ p. p.number == number) (flat_of (hop_at (routes_of M))))))
-accepted M (Some C.Count) = told M (Count (count_of Ipv4 (routes_of M)) (count_of Ipv6 (routes_of M)) ∷ [])
-accepted M (Some C.Flat) = told M (map flat_line (flat_of (hop_at (routes_of M))))
+accepted M (Some (C.Get net)) = option_map_or (λ r. listed M (route_line r ∷ [])) (match_of (routes_of M) (block net)) (closed M Missing)
+accepted M (Some (C.Cover net)) = listed M (map route_line (covering (routes_of M) (block net)))
+accepted M (Some (C.List net)) = listed M (map route_line (routes_inside (routes_of M) (block net)))
+accepted M (Some (C.All net)) = listed M (map (λ c. Route (network_at (block net)) c.hop (Some c.pref)) (choices_at M (block net)))
+accepted M (Some (C.PageFrom net limit)) = listed M (map route_line (take limit (routes_from (routes_of M) (block net))))
+accepted M (Some (C.PageAfter net limit)) = listed M (map route_line (take limit (routes_after (routes_of M) (block net))))
+accepted M (Some (C.Own number)) = listed M (map (λ b. Own (network_at b)) (blocks_of (filter (λ p. p.number == number) (flat_of (hop_at (routes_of M))))))
+accepted M (Some C.Count) = listed M (Count (count_of Ipv4 (routes_of M)) (count_of Ipv6 (routes_of M)) ∷ [])
+accepted M (Some C.Flat) = listed M (map flat_line (flat_of (hop_at (routes_of M))))
 accepted M None = closed M Bad
 
 -- the reply to one line; an `add` of one hop too many is always refused, and uses up no refusal, since its network is stored

@@ -68,8 +68,8 @@ painted_over now [] x = now
 painted_over now (c ∷ cs) x = painted_over (if has_address c.block x then c.number else now) cs x
 
 -- the hop of an address after these changes, in order, when no address had a hop before
-abbrev pub painted : List Change → Address → Option ℕ
-painted cs x = painted_over None cs x
+abbrev pub painted_hop : List Change → Address → Option ℕ
+painted_hop cs x = painted_over None cs x
 
 -- the complete reply lines in the bytes
 abbrev pub replies_in : List ℕ → List Reply

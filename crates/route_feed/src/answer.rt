@@ -1,21 +1,20 @@
 //! The reply to one line, which a run or a caller has read.
 ghost use Rattle.std.specs.Prelude.{◌≡◌, ◌≢◌, [], ◌∷◌, IsErr, Some};
 ghost use Rattle.ipnet.specs.IpNets.{block};
-ghost use Rattle.route_feed.specs.Counted.{CanCount};
+ghost use Rattle.route_program.specs.Counted.{CanCount};
 ghost use Rattle.route_feed.specs.InnerLines.{command_in};
 ghost use Rattle.route_feed.specs.InnerReplies.{TellsGoverned, replies_to_rest, reply_to_rest};
 ghost use Rattle.route_feed.specs.LeadsLine.{Answers};
 ghost use Rattle.route_feed.specs.Replies.{printed};
-ghost use Rattle.route_feed.specs.Devices.{Closes};
+ghost use Rattle.route_program.specs.Devices.{Closes};
 ghost use Rattle.route_lines.specs.Lines.{as_line};
 ghost use Rattle.route_lines.specs.Spelled.{command_of};
 
 use crate::body::{ChangeLines, ChoiceLines, PageLines, change_line};
-use crate::counted::Counted;
-use crate::error::RunError;
-use crate::writing::{close, reply};
+use crate::writing::reply;
 use ipnet::IpNet;
 use route_lines::{Closing, Command, Reply, Rest, line_text};
+use route_program::{Counted, RunError, close};
 use route_table::{Hop, RouteTable};
 use std::io::Write;
 

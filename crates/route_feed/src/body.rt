@@ -3,12 +3,10 @@ ghost use Rattle.std.specs.Prelude.{◌≡◌, ⊤, List, map, take, All, IfSome
 ghost use Rattle.std.specs.Option.{option_to_list};
 ghost use Rattle.ipnet.specs.IpNets.{block, family, network_at, parts};
 ghost use Rattle.ipnet_blocks.specs.Networks.{IsTruncated};
-ghost use Rattle.route_laws.specs.Operations.{Operation};
 ghost use Rattle.route_feed.specs.InnerReplies.{GivesLine, choice_line, own_line};
 ghost use Rattle.route_feed.specs.Steps.{change_line, flat_line, route_line};
 ghost use Rattle.route_lines.specs.Texts.{IsPrintable};
 ghost use Rattle.route_lines.specs.declared.reply.Reply.{Reply};
-ghost use Rattle.route_table.specs.Operations.{GivesOperation, network_of, operation_of};
 
 use ipnet::IpNet;
 use route_lines::Reply;
@@ -144,44 +142,5 @@ impl Body for Flat<'_> {
     fn next_line(&mut self) -> Option<Reply> {
         let (net, number) = self.next()?;
         Some(Reply::Flat { net, number })
-    }
-}
-
-/// Operations on an installed table, one after another.
-pub(crate) trait Operations: Drop {
-    /// The operations that are left.
-    ghost left: { Self → List Operation };
-
-    /// Whether their networks have no host bits.
-    ghost can_give: { Self → Type 0 };
-
-    /// Returns the next operation.
-    fn next_operation(&mut self) -> Option<Operation>
-        requires { can_give self.old }
-        ensures operation { GivesOperation (left self.old) result (left self.new) }
-        ensures others { can_give self.new };
-}
-
-/// The operations between two tables.
-impl Operations for Between<'_> {
-    ghost left = { λ operations. operations };
-
-    ghost can_give = { λ operations. ⊤ };
-
-    fn next_operation(&mut self) -> Option<Operation> {
-        self.next()
-    }
-}
-
-/// Operations in a list.
-impl Operations for &[Operation] {
-    ghost left = { λ operations. map operation_of operations.now };
-
-    ghost can_give = { λ operations. All (λ o. IsTruncated (family (network_of o)) (parts (network_of o))) operations.now };
-
-    fn next_operation(&mut self) -> Option<Operation> {
-        let (operation, others) = self.split_first()?;
-        *self = others;
-        Some(*operation)
     }
 }

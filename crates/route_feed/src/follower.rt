@@ -9,17 +9,19 @@ ghost use Rattle.route_laws.specs.Flats.{IsFlat};
 ghost use Rattle.route_laws.specs.LeastTables.{IsLeast, routes_for};
 ghost use Rattle.route_laws.specs.Networks.{routes_of};
 ghost use Rattle.route_laws.specs.Tables.{hop_at};
-ghost use Rattle.route_feed.specs.declared.error.RunError.TheVariants as run;
+ghost use Rattle.route_program.specs.declared.error.RunError.TheVariants as run;
 ghost use Rattle.route_feed.specs.declared.follower.FollowError.TheVariants as follow;
 ghost use Rattle.route_feed.specs.Following.{HasFirst, LacksMemory, State, TakesLine};
 ghost use Rattle.route_feed.specs.Streams.{painted_over, WantsMemory};
+ghost use Rattle.route_feed.specs.InnerFollowing.{FollowsLine};
 ghost use Rattle.route_feed.specs.InnerWaiting.{changes_of, waiting_change};
 
-use crate::error::RunError;
 use ipnet::{IpAddr, IpNet};
 use route_lines::{Closing, Reply};
+use route_program::{Counted, RunError, Sink};
 use route_table::{Flat, Hop, HopTable, LeastRoutes, Refused};
 use std::alloc::{AllocFailed, Global};
+use std::io::Write;
 use std::marker::Model;
 use thiserror::Error;
 
@@ -338,6 +340,21 @@ impl Follower {
     {
         carry_out(&mut self.table, self.waiting.as_slice())?;
         self.waiting.clear();
+        Ok(())
+    }
+}
+
+/// A follower reads each line, and writes nothing meanwhile.
+impl<W: Write> Sink<W> for Follower {
+    ghost can_take = { λ follower writer. follower.failed ≡ false };
+
+    ghost takes = { λ follower line old result next new. FollowsLine follower line result next × (new ≡ old) };
+
+    fn take(&mut self, text: Option<&[u8]>, _writer: &mut Counted<W>) -> Result<(), RunError> {
+        let Some(text) = text else {
+            return Err(RunError::Line);
+        };
+        self.line(text)?;
         Ok(())
     }
 }

@@ -1,26 +1,15 @@
-//! A leader that keeps a route table, followers of its replies, and the parts of a program that runs one.
+//! A leader that keeps a route table, and followers of its replies.
 #![tactic(auto)]
 
 pub use answer::lead_line;
-pub use at_end::AtEnd;
-pub use counted::Counted;
-pub use error::RunError;
 pub use follower::{FollowError, Follower};
-pub use input::Input;
-pub use output::{OUTPUT_BUFFER, Output, release, write_out};
-pub use runs::{follow, follow_then, install, lead, lead_then, shorten};
+pub use route_program::{AtEnd, Counted, RunError};
+pub use runs::{follow, follow_then, lead, lead_then, shorten};
 
 mod answer;
-mod at_end;
 mod body;
-mod counted;
-mod error;
 mod follower;
-mod input;
-mod installer;
 pub mod laws;
-mod output;
+mod leader;
 mod runs;
-mod sink;
-mod sinks;
 mod writing;

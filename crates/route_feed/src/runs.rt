@@ -1,23 +1,19 @@
 //! The runs: each reads an input to its end, and writes the output of its lines.
 ghost use Rattle.std.specs.Prelude.{List, Bool, OnOk, IfSome};
 ghost use Rattle.std.specs.Io.KnownBytes.{Appends};
-ghost use Rattle.route_feed.specs.Counted.{CanRead, CanRun};
+ghost use Rattle.route_program.specs.Counted.{CanRead, CanRun};
 ghost use Rattle.route_feed.specs.Follows.{AreReplies, FollowEnds, followed};
 ghost use Rattle.route_feed.specs.InnerReaching.{Reaches};
-ghost use Rattle.route_feed.specs.Installs.{AppendsInstalled, InstallEnds};
 ghost use Rattle.route_feed.specs.Leads.{LeadEnds};
 ghost use Rattle.route_feed.specs.Output.{output};
 ghost use Rattle.route_feed.specs.Shortens.{AppendsLeast, ShortenEnds};
 ghost use Rattle.route_lines.specs.Bytes.{lines};
 
 use crate::answer::answer_rest;
-use crate::at_end::AtEnd;
-use crate::counted::Counted;
-use crate::error::RunError;
 use crate::follower::Follower;
-use crate::installer::Installer;
-use crate::sink::{INPUT_BUFFER, run};
+use crate::leader::Leader;
 use crate::writing::{reply, write_routes};
+use route_program::{AtEnd, Counted, INPUT_BUFFER, RunError, run};
 use route_table::RouteTable;
 use std::alloc::Global;
 use std::io::{Read, Write};
@@ -88,10 +84,11 @@ pub fn lead_then<R: Read, W: Write>(
         (refusals : List Bool) × Appends (W.contents writer.old.device) (W.contents writer.new.device) (output bytes refusals))) }
 {
     let mut buf = vec![in alloc; 0; INPUT_BUFFER]?;
-    let mut table = RouteTable::new(alloc)?;
-    let rest = run(&mut table, buf.as_mut_slice(), reader, writer)?;
+    let table = RouteTable::new(alloc)?;
+    let mut leader = Leader { table };
+    let rest = run(&mut leader, buf.as_mut_slice(), reader, writer)?;
     let result = answer_rest(rest, writer);
-    at_end.discard(table);
+    at_end.discard(leader);
     result
 }
 
@@ -223,54 +220,4 @@ pub fn shorten<R: Read, W: Write>(
     let follower = follow_all(alloc, reader, writer)?;
     let routes = follower.into_least()?;
     write_routes(writer, routes)
-}
-
-/// Keeps a table that is installed elsewhere in sync with the hops that the input lines report, by the operations that it writes.
-///
-/// `have` lines list the routes that are installed at the start, and the reply lines of a leader report the hops. At the first `sync`,
-/// and at each later one, the installed table is turned into a smallest table with the committed hops; if it is one already, a later
-/// `sync` gives an empty batch. After the first `sync`, each `ok` of the input commits the pending changes. Its operations are the fewest
-/// of all that bring each address to its committed hop.
-///
-/// The operations of one line are a batch, which may be empty. Each batch ends with `ok`, and then the writer is flushed. An `ok` of the
-/// input without pending changes gives no batch, and before the first `sync` nothing is written. While a batch is carried out, each
-/// address changes its hop at most once (`laws::installed`).
-///
-/// Bytes after the last line end are ignored. If the reader's or the writer's type doesn't specify its bytes, as that of a file, the run
-/// does the same, but nothing is proved about these bytes.
-///
-/// # Errors
-/// The batches of all lines before the error were written and flushed. At `Write`, a beginning of the next batch may be written too, but
-/// not flushed.
-///
-/// - `Line` if a line is none of these, or is a `have` line after a `sync`.
-/// - `Memory` before anything is read, or at a `have` line, a `sync`, a reply line with a change, or one that commits changes.
-/// - `Read` if `read` fails, or if 2^62 calls of `read` don't reach the end.
-/// - `Write` if `write` or `flush` fails, or if `write` writes nothing.
-///
-/// # Examples
-/// `text_is` compares its last two arguments:
-///
-/// ```rust
-/// let input: &[u8] = b"have 10.0.0.0/8 1\nset 10.0.0.0/8 2\nok\nsync\n";
-/// let mut reader = Counted::new(input);
-/// let mut writer = Counted::new(Vec::new(rt.alloc()));
-/// install(rt.alloc(), &mut reader, &mut writer)?;
-/// let out = writer.into_inner();
-/// text_is(&rt, "one", out.as_slice(), "install 10.0.0.0/8 2\nok\n");
-/// ```
-pub fn install<R: Read, W: Write>(
-    alloc: Global,
-    reader: &mut Counted<R>,
-    writer: &mut Counted<W>,
-) -> Result<(), RunError>
-    requires { CanRun reader.old writer.old }
-    ensures ends { InstallEnds R.remaining W.contents reader.old reader.new writer.old writer.new result }
-    ensures known { OnOk result (IfSome (R.remaining reader.old.device) (λ bytes.
-        AppendsInstalled (lines bytes) (W.contents writer.old.device) (W.contents writer.new.device))) }
-{
-    let mut buf = vec![in alloc; 0; INPUT_BUFFER]?;
-    let mut installer = Installer::new(alloc)?;
-    run(&mut installer, buf.as_mut_slice(), reader, writer)?;
-    Ok(())
 }

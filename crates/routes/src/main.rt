@@ -4,17 +4,15 @@
 ghost use Rattle.std.specs.Prelude.{◌≡◌, ◌↔◌, ◌⊎◌, [], ◌∷◌, drop, map, IfErr, IfOk, IfSome, IsErrOf, Ok, OnOk, Some};
 ghost use Rattle.std.specs.String.{string_bytes};
 ghost use Rattle.std.specs.Vec.Iter.{into_iter_items};
-ghost use Rattle.route_feed.specs.Counted.{CanRead, CanRun, ReadFault};
+ghost use Rattle.route_program.specs.Counted.{CanRead, CanRun, ReadFault};
 ghost use Rattle.route_feed.specs.Follows.{MeetsAnother};
-ghost use Rattle.route_feed.specs.Status.{status_of};
-ghost use Rattle.route_feed.specs.declared.error.RunError.{RunError as AnyRunError};
+ghost use Rattle.route_program.specs.Status.{status_of};
+ghost use Rattle.route_program.specs.declared.error.RunError.{RunError as AnyRunError};
 ghost use Rattle.routes.specs.Asked.{AnyMode, word_of};
-ghost use Rattle.routes.specs.Runs.{Ends, MayFailToWrite, MayLackMemory, Writes};
+ghost use Rattle.routes.specs.Runs.{ModeEnds, MayFailToWrite, MayLackMemory, ModeWrites};
 
-use route_feed::{
-    AtEnd, Counted, Input, OUTPUT_BUFFER, Output, RunError, follow_then, lead_then, release,
-    shorten, write_out,
-};
+use route_feed::{follow_then, lead_then, shorten};
+use route_program::{AtEnd, Counted, Input, OUTPUT_BUFFER, Output, RunError, release, write_out};
 use std::alloc::{Allocator, Global};
 use std::cell::Cell;
 use std::env;
@@ -108,8 +106,8 @@ fn run_as<R: Read, W: Write>(
     writer: &mut Counted<W>,
 ) -> Result<(), RunError>
     requires { CanRun reader.old writer.old }
-    ensures ends { Ends R.remaining W.contents mode reader.old reader.new writer.old writer.new result }
-    ensures known { OnOk result (IfSome (R.remaining reader.old.device) (λ bytes. Writes mode bytes (W.contents writer.old.device) (W.contents writer.new.device))) }
+    ensures ends { ModeEnds R.remaining W.contents mode reader.old reader.new writer.old writer.new result }
+    ensures known { OnOk result (IfSome (R.remaining reader.old.device) (λ bytes. ModeWrites mode bytes (W.contents writer.old.device) (W.contents writer.new.device))) }
 {
     match mode {
         Mode::Lead => lead_then(alloc, reader, writer, AtEnd::Leak),
@@ -128,7 +126,7 @@ fn run_mode<R: Read, W: Write + Drop>(
     more: &Cell<bool>,
 ) -> Result<W, RunError>
     requires { CanRead reader.old }
-    ensures known { IfOk result (λ w. IfSome (R.remaining reader.old.device) (λ bytes. Writes mode bytes (W.contents output) (W.contents w))) }
+    ensures known { IfOk result (λ w. IfSome (R.remaining reader.old.device) (λ bytes. ModeWrites mode bytes (W.contents output) (W.contents w))) }
     ensures read { IsErrOf result RunError.Read → ReadFault reader.old reader.new }
     ensures memory { IsErrOf result RunError.Memory → MayLackMemory R.remaining mode reader.old reader.new }
     ensures write { IsErrOf result RunError.Write → MayFailToWrite R.remaining mode reader.old reader.new }

@@ -17,8 +17,8 @@ table_in (Index i) = None
 table_in (Follower f) = None
 
 -- the index of the content of a handle
-abbrev pub hops_in : IndexSession → Hops
-hops_in i = arc_value i.index
+abbrev pub hops_of_index : IndexSession → Hops
+hops_of_index i = arc_value i.index
 
 -- the index, if the content is one
 abbrev pub index_in : Content → Option IndexSession

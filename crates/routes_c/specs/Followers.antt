@@ -9,7 +9,7 @@ use Rattle.route_laws.specs.Networks.{routes_of}
 use Rattle.route_laws.specs.Tables.{hop_at}
 use Rattle.route_lines.specs.Spelled.{reply_of}
 use Rattle.route_lines.specs.declared.reply.Reply.{Reply}
-use Rattle.routes_c.specs.Handles.{Reads, follower_of}
+use Rattle.routes_c.specs.Handles.{KeepsContent, follower_of}
 use Rattle.routes_c.specs.Lists.{MakesPieces, MakesRoutes}
 use Rattle.routes_c.specs.declared.follower_session.FollowerSession.{FollowerSession}
 use Rattle.routes_c.specs.declared.handle.Handle.{Handle}
@@ -36,7 +36,7 @@ TellsHop false (Some k) code old new = (code ≡ 0) × (new ≡ k)
 
 -- a call that looks up the hop of an address; 3 if there is no follower, and then the number is unchanged
 abbrev pub TellsHopAt : Handle → Handle → Address → ℕ → ℕ → ℕ → Type 0
-TellsHopAt old new x code was now = Reads follower_of old new ((code ≡ 3) × (now ≡ was)) (λ s. TellsHop s.follower.failed (hop_at (routes_of s.follower.table) x) code was now)
+TellsHopAt old new x code was now = KeepsContent follower_of old new ((code ≡ 3) × (now ≡ was)) (λ s. TellsHop s.follower.failed (hop_at (routes_of s.follower.table) x) code was now)
 
 -- a list of the hops: 0 if it was made, 2 if an allocation fails, and 8 exactly after a fault. All else is unchanged
 pub record FollowerMakes (s t : FollowerSession) (list : LastLists → LastLists → ℕ → Type 0) (code : ℕ) : Type 0 where

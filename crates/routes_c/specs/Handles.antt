@@ -21,8 +21,8 @@ abbrev pub session_of : Handle → Option Session
 session_of h = of_kind table_in (content_of h)
 
 -- the index of a handle
-abbrev pub index_of : Handle → Option IndexSession
-index_of h = of_kind index_in (content_of h)
+abbrev pub index_session_of : Handle → Option IndexSession
+index_session_of h = of_kind index_in (content_of h)
 
 -- the follower of a handle
 abbrev pub follower_of : Handle → Option FollowerSession
@@ -45,8 +45,8 @@ abbrev pub GoesOn : {S : Type 0} → (Handle → Option S) → Handle → Handle
 GoesOn of old new none next = IsHandle new × MatchOption (of old) (none × (content_of new ≡ content_of old)) (λ s. MatchOption (of new) ⊥ (λ t. next s t))
 
 -- a call that doesn't change the content
-abbrev pub Reads : {S : Type 0} → (Handle → Option S) → Handle → Handle → Type 0 → (S → Type 0) → Type 0
-Reads of old new none says = GoesOn of old new none (λ s t. (t ≡ s) × says s)
+abbrev pub KeepsContent : {S : Type 0} → (Handle → Option S) → Handle → Handle → Type 0 → (S → Type 0) → Type 0
+KeepsContent of old new none says = GoesOn of old new none (λ s t. (t ≡ s) × says s)
 
 -- 0 and the value; or 1 if there is none, and then all is unchanged
 abbrev pub Told : {A : Type 0} → Option A → ℕ → A → A → Type 0
@@ -54,8 +54,8 @@ Told None code old new = (code ≡ 1) × (new ≡ old)
 Told (Some x) code old new = (code ≡ 0) × (new ≡ x)
 
 -- a call that reads one value from the content; 3 if the content isn't there, and then all is unchanged
-abbrev pub Finds : {S A : Type 0} → (Handle → Option S) → Handle → Handle → (S → Option A) → ℕ → A → A → Type 0
-Finds of old new thing code was now = Reads of old new ((code ≡ 3) × (now ≡ was)) (λ s. Told (thing s) code was now)
+abbrev pub ReadsOne : {S A : Type 0} → (Handle → Option S) → Handle → Handle → (S → Option A) → ℕ → A → A → Type 0
+ReadsOne of old new thing code was now = KeepsContent of old new ((code ≡ 3) × (now ≡ was)) (λ s. Told (thing s) code was now)
 
 -- n items are copied from a place on, as far as there is room; the rest of the room is unchanged
 abbrev pub Copied : {A : Type 0} → List A → ℕ → ℕ → List A → List A → Type 0
@@ -63,4 +63,4 @@ Copied items from n was now = (n ≡ min (length was) (length items - from)) × 
 
 -- a call that copies a list of the content; 0 items if the content isn't there
 abbrev pub Copies : {S A : Type 0} → (Handle → Option S) → Handle → Handle → (S → List A) → ℕ → ℕ → List A → List A → Type 0
-Copies of old new items from n was now = Reads of old new ((n ≡ 0) × (now ≡ was)) (λ s. Copied (items s) from n was now)
+Copies of old new items from n was now = KeepsContent of old new ((n ≡ 0) × (now ≡ was)) (λ s. Copied (items s) from n was now)

@@ -6,7 +6,7 @@ use Rattle.ipnet_addr.specs.Addresses.{Ipv4, Ipv6}
 use Rattle.ipnet_blocks.specs.Networks.{block_of}
 use Rattle.route_laws.specs.Networks.{Stored, routes_of}
 use Rattle.route_laws.specs.Tables.{item_of, match_of}
-use Rattle.routes_c.specs.Handles.{Reads}
+use Rattle.routes_c.specs.Handles.{KeepsContent}
 use Rattle.routes_c.specs.Shown.{match_shown}
 use Rattle.routes_c.specs.declared.handle.Handle.{Handle}
 use Rattle.routes_c.specs.declared.shown.Addr6.{Addr6}
@@ -32,5 +32,5 @@ abbrev pub Fills : {A : Type 0} → (A → ℕ) → List A → List ℕ → List
 Fills answer addrs old new = new ≡ map answer (take (min (length old) (length addrs)) addrs) ++ drop (min (length old) (length addrs)) old
 
 -- a call that looks up many addresses; 3 if the content isn't there, and then all is unchanged
-abbrev pub Answers : {S A : Type 0} → (Handle → Option S) → Handle → Handle → (S → A → ℕ) → List A → ℕ → List ℕ → List ℕ → Type 0
-Answers of old new answer addrs code was now = Reads of old new ((code ≡ 3) × (now ≡ was)) (λ s. (code ≡ 0) × Fills (answer s) addrs was now)
+abbrev pub LooksUpMany : {S A : Type 0} → (Handle → Option S) → Handle → Handle → (S → A → ℕ) → List A → ℕ → List ℕ → List ℕ → Type 0
+LooksUpMany of old new answer addrs code was now = KeepsContent of old new ((code ≡ 3) × (now ≡ was)) (λ s. (code ≡ 0) × Fills (answer s) addrs was now)

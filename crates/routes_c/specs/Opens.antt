@@ -4,7 +4,7 @@ use Rattle.ipnet_addr.specs.Addresses.{Address, IsAddress}
 use Rattle.hop_index.specs.Indexes.{Index, hop_of}
 use Rattle.route_laws.specs.Networks.{Stored, routes_of}
 use Rattle.route_laws.specs.Tables.{hop_at}
-use Rattle.routes_c.specs.Contents.{follower_in, hops_in, index_in, table_in}
+use Rattle.routes_c.specs.Contents.{follower_in, hops_of_index, index_in, table_in}
 use Rattle.routes_c.specs.declared.content.Content.{Content}
 use Rattle.routes_c.specs.declared.follower_session.FollowerSession.{FollowerSession}
 use Rattle.routes_c.specs.declared.index_session.IndexSession.{IndexSession}
@@ -36,7 +36,7 @@ HasHopsOf T i = (x : Address) → IsAddress x → hop_of i x ≡ hop_at (routes_
 
 -- an index with the hops of the table
 abbrev pub IsIndexOf : List Stored → Content → Type 0
-IsIndexOf T c = MatchOption (index_in c) ⊥ (λ i. HasHopsOf T (hops_in i))
+IsIndexOf T c = MatchOption (index_in c) ⊥ (λ i. HasHopsOf T (hops_of_index i))
 
 -- an index of a table: 3 if there is no table, 2 if an allocation fails
 abbrev pub OpensIndex : Option Content → Option Content → Option Session → ℕ → Type 0
@@ -46,7 +46,7 @@ OpensIndex before after (Some s) code = Opens before after (λ k. k ≡ 2) (IsIn
 -- another handle of an index: 3 if there is no index, 2 if an allocation fails, or if too many handles share it
 abbrev pub SharesIndex : Option Content → Option Content → Option IndexSession → ℕ → Type 0
 SharesIndex before after None code = Opens before after (λ k. k ≡ 3) (λ c. ⊥) code
-SharesIndex before after (Some s) code = Opens before after (λ k. k ≡ 2) (λ c. MatchOption (index_in c) ⊥ (λ i. hops_in i ≡ hops_in s)) code
+SharesIndex before after (Some s) code = Opens before after (λ k. k ≡ 2) (λ c. MatchOption (index_in c) ⊥ (λ i. hops_of_index i ≡ hops_of_index s)) code
 
 -- the number for an index that could not be made: 8 exactly after a fault, else 2
 abbrev pub IsNoIndex : FollowerSession → ℕ → Type 0

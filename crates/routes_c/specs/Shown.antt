@@ -41,9 +41,9 @@ abbrev pub found_at : List Stored → Block → Option Route
 found_at T b = option_map found_shown (option_map item_of (match_of (routes_of T) b))
 
 -- the block of a route, with this hop
-abbrev pub piece_of : Route → ℕ → Piece
-piece_of r k = record { high = r.high; low = r.low; hop = k; family = r.family; len = r.len }
+abbrev pub piece_with_hop : Route → ℕ → Piece
+piece_with_hop r k = record { high = r.high; low = r.low; hop = k; family = r.family; len = r.len }
 
 -- a block with its hop
 abbrev pub piece_shown : FlatPiece → Piece
-piece_shown p = piece_of (shown (network_at p.block) (Number p.number) 0) p.number
+piece_shown p = piece_with_hop (shown (network_at p.block) (Number p.number) 0) p.number

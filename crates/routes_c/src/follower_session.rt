@@ -4,7 +4,7 @@ ghost use Rattle.ipnet_addr.specs.Addresses.{address_of};
 ghost use Rattle.route_laws.specs.LeastTables.{IsLeast};
 ghost use Rattle.route_laws.specs.Networks.{routes_of};
 ghost use Rattle.route_laws.specs.Tables.{hop_at};
-ghost use Rattle.routes_c.specs.Contents.{hops_in};
+ghost use Rattle.routes_c.specs.Contents.{hops_of_index};
 ghost use Rattle.routes_c.specs.Followers.{FollowerFlattens, FollowerLists, Follows, TellsHop};
 ghost use Rattle.routes_c.specs.Opens.{HasHopsOf, IsEmpty, IsNoIndex};
 ghost use Rattle.routes_c.specs.RouteLists.{Shown};
@@ -47,7 +47,7 @@ impl FollowerSession {
         }
     }
 
-    /// Reads a line.
+    /// KeepsContent a line.
     pub(crate) fn line(&mut self, line: &[u8]) -> u32
         ensures { Follows self.old self.new line.now result }
     {
@@ -102,7 +102,7 @@ impl FollowerSession {
     /// Compiles an index of the hops.
     pub(crate) fn index(&self, alloc: Global) -> Result<IndexSession, u32>
         ensures works { IfOk result (λ _. self.now.follower.failed ≡ false) }
-        ensures hops { IfOk result (λ i. HasHopsOf self.now.follower.table (hops_in i)) }
+        ensures hops { IfOk result (λ i. HasHopsOf self.now.follower.table (hops_of_index i)) }
         ensures none { IfErr result (IsNoIndex self.now) }
     {
         let Some(flat) = self.follower.flat() else {

@@ -2,7 +2,7 @@
 ghost use Rattle.std.specs.Prelude.{◌≡◌, ◌+◌, ◌*◌, ◌^◌, slice_get};
 ghost use Rattle.ipnet_addr.specs.Addresses.{Ipv4, Ipv6, address_of};
 ghost use Rattle.routes_c.specs.Followers.{FollowerFlattens, FollowerLists, Follows, TellsHopAt};
-ghost use Rattle.routes_c.specs.Handles.{Copies, Finds, GoesOn, IsHandle, follower_of};
+ghost use Rattle.routes_c.specs.Handles.{Copies, ReadsOne, GoesOn, IsHandle, follower_of};
 
 use crate::follower_session::FollowerSession;
 use crate::handle::Handle;
@@ -11,7 +11,7 @@ use crate::shown::{Piece, Route, ip4, ip6};
 use ipnet::IpAddr;
 use std::alloc::Global;
 
-/// Reads a line of a leader's reply, given without its line end. A change is pending until its reply is closed, and `ok` commits it.
+/// KeepsContent a line of a leader's reply, given without its line end. A change is pending until its reply is closed, and `ok` commits it.
 ///
 /// Returns 0. Fails with 2 if an allocation for a change fails, 3 if the handle is closed, and 7 if the text isn't a reply line. After a
 /// failure with 2 or 7, which are faults, each later call fails with 8.
@@ -34,7 +34,7 @@ pub extern "C" fn routes_follower_flat(alloc: Global, follower: &mut Handle) -> 
     follower.on(3, |session: &mut FollowerSession| { session.flat(alloc) })
 }
 
-/// Reads the piece at an index of the list that was made last.
+/// KeepsContent the piece at an index of the list that was made last.
 ///
 /// Returns 0 and sets `piece`. Fails with 1 past the end of the list, and 3 if the handle is closed. Then `piece` is unchanged.
 #[unsafe(no_mangle)]
@@ -44,7 +44,7 @@ pub extern "C" fn routes_follower_piece_at(
     piece: &mut Piece,
 ) -> u32
     requires { IsHandle follower.old }
-    ensures { Finds follower_of follower.old follower.new (λ s. slice_get s.lists.pieces.items index) result piece.old piece.new }
+    ensures { ReadsOne follower_of follower.old follower.new (λ s. slice_get s.lists.pieces.items index) result piece.old piece.new }
 {
     follower.on_with(piece, 3, |session: &mut FollowerSession, piece| {
         tell_at(&session.lists.pieces, index, piece)
@@ -117,7 +117,7 @@ pub extern "C" fn routes_follower_least(alloc: Global, follower: &mut Handle) ->
     follower.on(3, |session: &mut FollowerSession| { session.least(alloc) })
 }
 
-/// Reads the route at an index of the list of routes that was made last.
+/// KeepsContent the route at an index of the list of routes that was made last.
 ///
 /// Returns 0 and sets `route`. Fails with 1 past the end of the list, and 3 if the handle is closed. Then `route` is unchanged.
 #[unsafe(no_mangle)]
@@ -127,7 +127,7 @@ pub extern "C" fn routes_follower_route_at(
     route: &mut Route,
 ) -> u32
     requires { IsHandle follower.old }
-    ensures { Finds follower_of follower.old follower.new (λ s. slice_get s.lists.routes.items index) result route.old route.new }
+    ensures { ReadsOne follower_of follower.old follower.new (λ s. slice_get s.lists.routes.items index) result route.old route.new }
 {
     follower.on_with(route, 3, |session: &mut FollowerSession, route| {
         tell_at(&session.lists.routes, index, route)

@@ -2,9 +2,9 @@
 ghost use Rattle.std.specs.Prelude.{◌≡◌, ℕ, ◌+◌, ◌*◌, ◌^◌, ◌≤◌, Some, length, map};
 ghost use Rattle.hop_index.specs.Indexes.{hop_number, hop_of};
 ghost use Rattle.ipnet_addr.specs.Addresses.{Ipv6};
-ghost use Rattle.routes_c.specs.Contents.{hops_in};
-ghost use Rattle.routes_c.specs.Handles.{Finds, IsHandle, index_of, session_of};
-ghost use Rattle.routes_c.specs.Many.{Answers, Fills, hop4_at, hop6_at, index_hop4, index_hop6};
+ghost use Rattle.routes_c.specs.Contents.{hops_of_index};
+ghost use Rattle.routes_c.specs.Handles.{ReadsOne, IsHandle, index_session_of, session_of};
+ghost use Rattle.routes_c.specs.Many.{LooksUpMany, Fills, hop4_at, hop6_at, index_hop4, index_hop6};
 
 use crate::handle::Handle;
 use crate::index_session::IndexSession;
@@ -100,7 +100,7 @@ fn fill_from_index<A: Addressed>(index: &HopIndex, addrs: &[A], hops: &mut [u64]
 #[unsafe(no_mangle)]
 pub extern "C" fn routes_get4_many(handle: &mut Handle, addrs: &[u32], hops: &mut [u64]) -> u32
     requires { IsHandle handle.old }
-    ensures { Answers session_of handle.old handle.new (λ s. hop4_at s.table) addrs.now result hops.old hops.new }
+    ensures { LooksUpMany session_of handle.old handle.new (λ s. hop4_at s.table) addrs.now result hops.old hops.new }
 {
     handle.on_slice(hops, 3, |session: &mut Session, hops| {
         fill(&session.table, addrs, hops)
@@ -113,7 +113,7 @@ pub extern "C" fn routes_get4_many(handle: &mut Handle, addrs: &[u32], hops: &mu
 #[unsafe(no_mangle)]
 pub extern "C" fn routes_get6_many(handle: &mut Handle, addrs: &[Addr6], hops: &mut [u64]) -> u32
     requires { IsHandle handle.old }
-    ensures { Answers session_of handle.old handle.new (λ s. hop6_at s.table) addrs.now result hops.old hops.new }
+    ensures { LooksUpMany session_of handle.old handle.new (λ s. hop6_at s.table) addrs.now result hops.old hops.new }
 {
     handle.on_slice(hops, 3, |session: &mut Session, hops| {
         fill(&session.table, addrs, hops)
@@ -126,7 +126,7 @@ pub extern "C" fn routes_get6_many(handle: &mut Handle, addrs: &[Addr6], hops: &
 #[unsafe(no_mangle)]
 pub extern "C" fn routes_index_hop4(index: &mut Handle, addr: u32, hop: &mut u64) -> u32
     requires { IsHandle index.old }
-    ensures { Finds index_of index.old index.new (λ s. Some (index_hop4 (hops_in s) addr)) result hop.old hop.new }
+    ensures { ReadsOne index_session_of index.old index.new (λ s. Some (index_hop4 (hops_of_index s) addr)) result hop.old hop.new }
 {
     index.on_with(hop, 3, |session: &mut IndexSession, hop| {
         tell_hop(&*session.index, addr, hop)
@@ -139,7 +139,7 @@ pub extern "C" fn routes_index_hop4(index: &mut Handle, addr: u32, hop: &mut u64
 #[unsafe(no_mangle)]
 pub extern "C" fn routes_index_hop6(index: &mut Handle, high: u64, low: u64, hop: &mut u64) -> u32
     requires { IsHandle index.old }
-    ensures { Finds index_of index.old index.new (λ s. Some (index_hop6 (hops_in s) (record { high = high; low = low }))) result hop.old hop.new }
+    ensures { ReadsOne index_session_of index.old index.new (λ s. Some (index_hop6 (hops_of_index s) (record { high = high; low = low }))) result hop.old hop.new }
 {
     index.on_with(hop, 3, |session: &mut IndexSession, hop| {
         tell_hop(&*session.index, Addr6 { high, low }, hop)
@@ -153,7 +153,7 @@ pub extern "C" fn routes_index_hop6(index: &mut Handle, high: u64, low: u64, hop
 #[unsafe(no_mangle)]
 pub extern "C" fn routes_index_hop4_many(index: &mut Handle, addrs: &[u32], hops: &mut [u64]) -> u32
     requires { IsHandle index.old }
-    ensures { Answers index_of index.old index.new (λ s. index_hop4 (hops_in s)) addrs.now result hops.old hops.new }
+    ensures { LooksUpMany index_session_of index.old index.new (λ s. index_hop4 (hops_of_index s)) addrs.now result hops.old hops.new }
 {
     index.on_slice(hops, 3, |session: &mut IndexSession, hops| {
         fill_from_index(&*session.index, addrs, hops)
@@ -170,7 +170,7 @@ pub extern "C" fn routes_index_hop6_many(
     hops: &mut [u64],
 ) -> u32
     requires { IsHandle index.old }
-    ensures { Answers index_of index.old index.new (λ s. index_hop6 (hops_in s)) addrs.now result hops.old hops.new }
+    ensures { LooksUpMany index_session_of index.old index.new (λ s. index_hop6 (hops_of_index s)) addrs.now result hops.old hops.new }
 {
     index.on_slice(hops, 3, |session: &mut IndexSession, hops| {
         fill_from_index(&*session.index, addrs, hops)

@@ -1,6 +1,6 @@
 //! The content of an open handle of an index.
 ghost use Rattle.std.specs.Prelude.{◌≡◌, IfErr, IfOk};
-ghost use Rattle.routes_c.specs.Contents.{hops_in};
+ghost use Rattle.routes_c.specs.Contents.{hops_of_index};
 
 use hop_index::HopIndex;
 use std::alloc::Global;
@@ -15,7 +15,7 @@ pub struct IndexSession {
 impl IndexSession {
     /// Makes the content for an index.
     pub(crate) fn new(alloc: Global, index: HopIndex) -> Result<IndexSession, u32>
-        ensures index { IfOk result (λ s. hops_in s ≡ index) }
+        ensures index { IfOk result (λ s. hops_of_index s ≡ index) }
         ensures memory { IfErr result (λ e. e ≡ 2) }
     {
         match Arc::new(alloc, index) {
@@ -26,7 +26,7 @@ impl IndexSession {
 
     /// Makes the content for another handle of the same index.
     pub(crate) fn share(&self) -> Result<IndexSession, u32>
-        ensures index { IfOk result (λ s. hops_in s ≡ hops_in self.now) }
+        ensures index { IfOk result (λ s. hops_of_index s ≡ hops_of_index self.now) }
         ensures memory { IfErr result (λ e. e ≡ 2) }
     {
         match Arc::try_clone(&self.index) {

@@ -6,7 +6,7 @@ ghost use Rattle.route_laws.specs.LeastTables.{IsLeast};
 ghost use Rattle.route_laws.specs.Networks.{routes_of};
 ghost use Rattle.route_laws.specs.Onwards.{routes_after, routes_from};
 ghost use Rattle.route_laws.specs.Tables.{covering, hop_at, routes_inside};
-ghost use Rattle.routes_c.specs.Handles.{Copies, Finds, GoesOn, IsHandle, session_of};
+ghost use Rattle.routes_c.specs.Handles.{Copies, ReadsOne, GoesOn, IsHandle, session_of};
 ghost use Rattle.routes_c.specs.Lists.{Flattens, ListsAt, ListsOf};
 ghost use Rattle.routes_c.specs.RouteLists.{AreAsked, AreGoverned, all_routes, own_routes};
 
@@ -29,13 +29,13 @@ pub extern "C" fn routes_flat(alloc: Global, handle: &mut Handle) -> u32
     handle.on(3, |session: &mut Session| session.flat(alloc))
 }
 
-/// Reads the piece at an index of the list that was made last.
+/// KeepsContent the piece at an index of the list that was made last.
 ///
 /// Returns 0 and sets `piece`. Fails with 1 past the end of the list, and 3 if the handle is closed. Then `piece` is unchanged.
 #[unsafe(no_mangle)]
 pub extern "C" fn routes_piece_at(handle: &mut Handle, index: usize, piece: &mut Piece) -> u32
     requires { IsHandle handle.old }
-    ensures { Finds session_of handle.old handle.new (λ s. slice_get s.lists.pieces.items index) result piece.old piece.new }
+    ensures { ReadsOne session_of handle.old handle.new (λ s. slice_get s.lists.pieces.items index) result piece.old piece.new }
 {
     handle.on_with(piece, 3, |session: &mut Session, piece| {
         tell_at(&session.lists.pieces, index, piece)
@@ -317,13 +317,13 @@ pub extern "C" fn routes_least(alloc: Global, handle: &mut Handle) -> u32
     list(alloc, handle, ListQuery::Least)
 }
 
-/// Reads the route at an index of the list of routes that was made last.
+/// KeepsContent the route at an index of the list of routes that was made last.
 ///
 /// Returns 0 and sets `route`. Fails with 1 past the end of the list, and 3 if the handle is closed. Then `route` is unchanged.
 #[unsafe(no_mangle)]
 pub extern "C" fn routes_route_at(handle: &mut Handle, index: usize, route: &mut Route) -> u32
     requires { IsHandle handle.old }
-    ensures { Finds session_of handle.old handle.new (λ s. slice_get s.lists.routes.items index) result route.old route.new }
+    ensures { ReadsOne session_of handle.old handle.new (λ s. slice_get s.lists.routes.items index) result route.old route.new }
 {
     handle.on_with(route, 3, |session: &mut Session, route| {
         tell_at(&session.lists.routes, index, route)

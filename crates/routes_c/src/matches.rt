@@ -3,7 +3,7 @@ ghost use Rattle.std.specs.Prelude.{◌+◌, ◌*◌, ◌^◌};
 ghost use Rattle.ipnet.specs.IpNets.{block};
 ghost use Rattle.ipnet_addr.specs.Addresses.{Ipv4, Ipv6};
 ghost use Rattle.ipnet_blocks.specs.Networks.{block_of};
-ghost use Rattle.routes_c.specs.Handles.{Finds, IsHandle, session_of};
+ghost use Rattle.routes_c.specs.Handles.{ReadsOne, IsHandle, session_of};
 ghost use Rattle.routes_c.specs.Shown.{found_at};
 
 use crate::handle::Handle;
@@ -14,7 +14,7 @@ use ipnet::IpNet;
 /// Looks up the longest match of a network.
 fn get(handle: &mut Handle, net: &IpNet, route: &mut Route) -> u32
     requires { IsHandle handle.old }
-    ensures { Finds session_of handle.old handle.new (λ s. found_at s.table (block net.now)) result route.old route.new }
+    ensures { ReadsOne session_of handle.old handle.new (λ s. found_at s.table (block net.now)) result route.old route.new }
 {
     handle.on_with(route, 3, |session: &mut Session, route| {
         session.get(net, route)
@@ -28,7 +28,7 @@ fn get(handle: &mut Handle, net: &IpNet, route: &mut Route) -> u32
 #[unsafe(no_mangle)]
 pub extern "C" fn routes_get4(handle: &mut Handle, addr: u32, route: &mut Route) -> u32
     requires { IsHandle handle.old }
-    ensures { Finds session_of handle.old handle.new (λ s. found_at s.table (block_of Ipv4 (record { number = addr; len = 32 }))) result route.old route.new }
+    ensures { ReadsOne session_of handle.old handle.new (λ s. found_at s.table (block_of Ipv4 (record { number = addr; len = 32 }))) result route.old route.new }
 {
     match net4(addr, 32) {
         Some(net) => get(handle, &net, route),
@@ -43,7 +43,7 @@ pub extern "C" fn routes_get4(handle: &mut Handle, addr: u32, route: &mut Route)
 #[unsafe(no_mangle)]
 pub extern "C" fn routes_get6(handle: &mut Handle, high: u64, low: u64, route: &mut Route) -> u32
     requires { IsHandle handle.old }
-    ensures { Finds session_of handle.old handle.new (λ s. found_at s.table (block_of Ipv6 (record { number = high * 2 ^ 64 + low; len = 128 }))) result route.old route.new }
+    ensures { ReadsOne session_of handle.old handle.new (λ s. found_at s.table (block_of Ipv6 (record { number = high * 2 ^ 64 + low; len = 128 }))) result route.old route.new }
 {
     match net6(high, low, 128) {
         Some(net) => get(handle, &net, route),

@@ -1,6 +1,6 @@
 //! Opening and closing handles.
 ghost use Rattle.std.specs.Prelude.{◌≡◌, Err, ⊤};
-ghost use Rattle.routes_c.specs.Handles.{IsClosed, IsHandle, Reads, content_of, follower_of, index_of, session_of};
+ghost use Rattle.routes_c.specs.Handles.{IsClosed, IsHandle, KeepsContent, content_of, follower_of, index_session_of, session_of};
 ghost use Rattle.routes_c.specs.Opens.{IsNewFollower, IsNewTable, Opens, OpensIndex, OpensIndexOf, SharesIndex};
 
 use crate::content::Content;
@@ -76,7 +76,7 @@ pub extern "C" fn routes_index_open(alloc: Global, index: &mut Handle, table: &m
     requires index { IsHandle index.old }
     requires table { IsHandle table.old }
     ensures index { IsHandle index.new }
-    ensures table { Reads session_of table.old table.new ⊤ (λ s. ⊤) }
+    ensures table { KeepsContent session_of table.old table.new ⊤ (λ s. ⊤) }
     ensures opens { OpensIndex (content_of index.old) (content_of index.new) (session_of table.old) result }
 {
     if index.is_open {
@@ -101,7 +101,7 @@ pub extern "C" fn routes_follower_index(
     requires index { IsHandle index.old }
     requires follower { IsHandle follower.old }
     ensures index { IsHandle index.new }
-    ensures follower { Reads follower_of follower.old follower.new ⊤ (λ s. ⊤) }
+    ensures follower { KeepsContent follower_of follower.old follower.new ⊤ (λ s. ⊤) }
     ensures opens { OpensIndexOf (content_of index.old) (content_of index.new) (follower_of follower.old) result }
 {
     if index.is_open {
@@ -123,8 +123,8 @@ pub extern "C" fn routes_index_share(alloc: Global, index: &mut Handle, from: &m
     requires index { IsHandle index.old }
     requires from { IsHandle from.old }
     ensures index { IsHandle index.new }
-    ensures from { Reads index_of from.old from.new ⊤ (λ s. ⊤) }
-    ensures opens { SharesIndex (content_of index.old) (content_of index.new) (index_of from.old) result }
+    ensures from { KeepsContent index_session_of from.old from.new ⊤ (λ s. ⊤) }
+    ensures opens { SharesIndex (content_of index.old) (content_of index.new) (index_session_of from.old) result }
 {
     if index.is_open {
         return 4;

@@ -3,7 +3,7 @@ ghost use Rattle.std.specs.Prelude.{◌≡◌, [], IfErr, IfOk};
 ghost use Rattle.ipnet.specs.IpNets.{block};
 ghost use Rattle.routes_c.specs.Answered.{Answered};
 ghost use Rattle.routes_c.specs.Calls.{Adds, KeepsLists, Removes};
-ghost use Rattle.routes_c.specs.Contents.{hops_in};
+ghost use Rattle.routes_c.specs.Contents.{hops_of_index};
 ghost use Rattle.routes_c.specs.Handles.{Told};
 ghost use Rattle.routes_c.specs.Lists.{Flattens, Lists};
 ghost use Rattle.routes_c.specs.Opens.{HasHopsOf, IsEmpty};
@@ -111,7 +111,7 @@ impl Session {
 
     /// Compiles an index of the hops.
     pub(crate) fn index(&self, alloc: Global) -> Result<IndexSession, u32>
-        ensures hops { IfOk result (λ i. HasHopsOf self.now.table (hops_in i)) }
+        ensures hops { IfOk result (λ i. HasHopsOf self.now.table (hops_of_index i)) }
         ensures memory { IfErr result (λ e. e ≡ 2) }
     {
         match HopIndex::from_table(alloc, &self.table) {

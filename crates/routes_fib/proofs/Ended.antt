@@ -1,10 +1,10 @@
 -- Which line a run ended at.
 use Rattle.std.proofs.Common.{◌≡◌, ℕ, List, inl, inr}
 use Rattle.std.specs.Prelude.{◌⊎◌, Option, Err, IsErrOf}
-use Rattle.route_feed.specs.declared.counted.Counted.{Counted}
-use Rattle.route_feed.specs.declared.error.RunError.{RunError}
-use Rattle.route_feed.specs.declared.error.RunError.TheVariants.{Memory, Read, Write, Line}
-use Rattle.route_feed.specs.Installs.{InstallEnds}
+use Rattle.route_program.specs.declared.counted.Counted.{Counted}
+use Rattle.route_program.specs.declared.error.RunError.{RunError}
+use Rattle.route_program.specs.declared.error.RunError.TheVariants.{Memory, Read, Write, Line}
+use Rattle.route_installer.specs.Installs.{InstallEnds}
 use Rattle.routes_fib.specs.Ends.{MeetsNote, MeetsUnfitLine, MeetsWantingLine, ReadsNotes}
 
 pub at_unfit : {R W T : Type 0} (remaining : R → Option (List ℕ)) (contents : W → Option (List ℕ)) (from to : Counted R) (old new : Counted W) (e : RunError)

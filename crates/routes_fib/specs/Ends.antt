@@ -4,10 +4,10 @@ use Rattle.std.specs.Io.KnownBytes.{IsAtEnd}
 use Rattle.route_lines.specs.Bytes.{lines}
 use Rattle.route_lines.specs.Spelled.{note_of}
 use Rattle.route_lines.specs.declared.fib_input.FibInput.{FibInput}
-use Rattle.route_feed.specs.declared.counted.Counted.{Counted}
-use Rattle.route_feed.specs.Devices.{HasRead}
-use Rattle.route_feed.specs.Installing.{AreNotes, IsUnfit, MayWant, Noted, after_notes, begin}
-use Rattle.route_feed.specs.Installs.{Meets}
+use Rattle.route_program.specs.declared.counted.Counted.{Counted}
+use Rattle.route_program.specs.Devices.{HasRead}
+use Rattle.route_installer.specs.Installing.{AreNotes, IsUnfit, MayWant, Noted, after_notes, begin}
+use Rattle.route_installer.specs.Installs.{Meets}
 
 module _ {R : Type 0} (remaining : R → Option (List ℕ)) where
   -- the reader returned some bytes; the lines before one of them are notes, and this line can't be accepted as one

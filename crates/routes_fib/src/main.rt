@@ -4,16 +4,17 @@
 
 ghost use Rattle.std.specs.Prelude.{◌≡◌, ◌↔◌, ◌⊎◌, [], drop, IfErr, IfOk, IfSome, IsErrOf, IsOk};
 ghost use Rattle.std.specs.Vec.Iter.{into_iter_items};
-ghost use Rattle.route_feed.specs.Counted.{CanRead, ReadFault};
-ghost use Rattle.route_feed.specs.Installs.{AppendsInstalled};
-ghost use Rattle.route_feed.specs.Status.{status_of};
-ghost use Rattle.route_feed.specs.declared.error.RunError.{RunError as AnyRunError};
+ghost use Rattle.route_program.specs.Counted.{CanRead, ReadFault};
+ghost use Rattle.route_installer.specs.Installs.{AppendsInstalled};
+ghost use Rattle.route_program.specs.Status.{status_of};
+ghost use Rattle.route_program.specs.declared.error.RunError.{RunError as AnyRunError};
 ghost use Rattle.route_lines.specs.Bytes.{lines};
-ghost use Rattle.route_feed.specs.declared.error.RunError.TheVariants as ended;
+ghost use Rattle.route_program.specs.declared.error.RunError.TheVariants as ended;
 ghost use Rattle.routes_fib.specs.declared.Fault.TheVariants as fault;
 ghost use Rattle.routes_fib.specs.Ends.{MeetsNote, MeetsUnfitLine, MeetsWantingLine, ReadsNotes};
 
-use route_feed::{Counted, OUTPUT_BUFFER, RunError, install, release, write_out};
+use route_installer::install;
+use route_program::{Counted, OUTPUT_BUFFER, RunError, release, write_out};
 use std::alloc::{Allocator, Global};
 use std::env;
 use std::env::{Args, Env};

@@ -1,7 +1,8 @@
 //! An installer with hundreds of changes in a reply, and single lines for a table.
 use crate::tests::rows::{row_is, text_is};
 use crate::tests::runs::{Mode, gives};
-use route_feed::{Counted, install, lead_line};
+use route_feed::{Counted, lead_line};
+use route_installer::install;
 use route_table::RouteTable;
 use std::alloc::Global;
 use std::process::Abort;

@@ -6,9 +6,8 @@ ghost use Rattle.route_feed.specs.Shortens.{IsLeastFor};
 ghost use Rattle.route_laws.specs.Tables.{Route};
 
 use crate::tests::rows::{row_is, text_is};
-use route_feed::{
-    AtEnd, Counted, RunError, follow, follow_then, install, lead, lead_then, shorten,
-};
+use route_feed::{AtEnd, Counted, RunError, follow, follow_then, lead, lead_then, shorten};
+use route_installer::install;
 use std::alloc::Global;
 use std::io::{Read, Write};
 use std::process::Abort;

@@ -1,6 +1,6 @@
 use Rattle.std.proofs.Common.{◌≡◌, ◌∙◌, List, ℕ, refl, ap, subst, Vec, Global, Bor}
-use Rattle.route_feed.specs.Installing.{AreNotes, begin, events, installed_bytes}
-use Rattle.route_feed.specs.InstallLaws.{carried_out, updates_in}
+use Rattle.route_installer.specs.Installing.{AreNotes, begin, events, installed_bytes}
+use Rattle.route_installer.specs.Laws.{carried_out, updates_in}
 use Rattle.route_lines.specs.Bytes.{lines}
 use Rattle.route_laws.specs.Runs.{haves}
 use Rattle.route_laws.specs.Tables.{hop_at}

@@ -4,7 +4,7 @@ use Rattle.route_lines.specs.declared.reply.Closing.TheVariants.{Done}
 use Rattle.route_lines.specs.declared.reply.Reply.TheVariants.{Close}
 use Rattle.route_laws.proofs.NetworksAt.{of_network_at}
 use Rattle.route_feed.specs.Replies.{printed}
-use Rattle.route_feed.specs.Devices.{Closes}
+use Rattle.route_program.specs.Devices.{Closes}
 use Rattle.route_feed.specs.InnerReplies.{choice_line}
 use Rattle.route_feed.proofs.answer.answer_all.Goals as goal
 

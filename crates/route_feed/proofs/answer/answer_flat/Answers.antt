@@ -4,7 +4,7 @@ use Rattle.route_lines.specs.declared.reply.Reply.TheVariants.{Close}
 use Rattle.route_laws.specs.Networks.{routes_of}
 use Rattle.route_feed.specs.Replies.{printed}
 use Rattle.route_feed.specs.Steps.{flat_line}
-use Rattle.route_feed.specs.Devices.{Closes}
+use Rattle.route_program.specs.Devices.{Closes}
 use Rattle.route_feed.proofs.AnsweredChanges.{flat_is}
 use Rattle.route_feed.proofs.answer.answer_flat.Goals as goal
 

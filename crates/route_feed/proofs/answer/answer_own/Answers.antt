@@ -3,7 +3,7 @@ use Rattle.ipnet.specs.IpNets.{block}
 use Rattle.route_lines.specs.declared.reply.Closing.TheVariants.{Done}
 use Rattle.route_lines.specs.declared.reply.Reply.TheVariants.{Close}
 use Rattle.route_feed.specs.Replies.{printed}
-use Rattle.route_feed.specs.Devices.{Closes}
+use Rattle.route_program.specs.Devices.{Closes}
 use Rattle.route_feed.specs.InnerReplies.{own_line}
 use Rattle.route_feed.proofs.Owned.{map_twice}
 use Rattle.route_feed.proofs.answer.answer_own.Goals as goal

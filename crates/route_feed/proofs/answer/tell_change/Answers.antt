@@ -6,7 +6,7 @@ use Rattle.route_lines.specs.declared.reply.Reply.TheVariants.{Close}
 use Rattle.route_laws.proofs.NetworksAt.{of_network_at}
 use Rattle.route_feed.specs.Replies.{printed}
 use Rattle.route_feed.specs.Steps.{change_line}
-use Rattle.route_feed.specs.Devices.{Closes}
+use Rattle.route_program.specs.Devices.{Closes}
 use Rattle.route_feed.proofs.answer.tell_change.Goals as goal
 
 pub reply-requires-clause-body : goal.reply-requires-clause-body

@@ -1,7 +1,5 @@
-use Rattle.route_feed.proofs.Moments.{hitless_is_turns_once}
 use Rattle.route_feed.proofs.OneHop.{changes_have_one_hop}
 use Rattle.route_feed.proofs.Splits.{split_is_lines}
-use Rattle.route_feed.proofs.Written.{more_by_is_min}
 use Rattle.route_feed.proofs.laws.meanings.Goals as goal
 
 pub returns-clause-changes : goal.returns-clause-changes
@@ -9,9 +7,3 @@ returns-clause-changes c = changes_have_one_hop
 
 pub returns-clause-split : goal.returns-clause-split
 returns-clause-split c = split_is_lines
-
-pub returns-clause-moments : goal.returns-clause-moments
-returns-clause-moments c = hitless_is_turns_once
-
-pub returns-clause-counts : goal.returns-clause-counts
-returns-clause-counts c = more_by_is_min

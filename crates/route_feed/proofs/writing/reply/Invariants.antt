@@ -2,7 +2,7 @@ use Rattle.std.proofs.Common.{◌++◌, ◌∷◌, [], length}
 use Rattle.route_lines.specs.declared.reply.Closing.TheVariants.{Done}
 use Rattle.route_lines.specs.declared.reply.Reply.TheVariants.{Close}
 use Rattle.route_feed.specs.Replies.{printed}
-use Rattle.route_feed.proofs.WriteLines.{Told}
+use Rattle.route_program.proofs.WriteLines.{Told}
 use Rattle.route_feed.proofs.writing.reply.Given as goal
 
 abbrev pub invariant-loop-line : goal.invariant-loop-line

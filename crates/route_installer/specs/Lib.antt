@@ -1,0 +1,4 @@
+pub mod Installing
+pub mod Installs
+pub mod Laws
+pub mod InnerInstalling

@@ -1,0 +1,118 @@
+-- Writes one after another.
+use Rattle.std.proofs.Common.{◌≡◌, ◌==◌, ne_eqb, ℕ, zero, suc, ◌<◌, ◌≤◌, ◌+◌, ◌-◌, ◌^◌, Bool, true, false, ◌&&◌, ◌||◌, codes, List, [], ◌∷◌, ◌++◌, length, Option, Result, Ok, Err, refl, sym, ap, ◌∙◌, subst, append_assoc, append-nil, arith}
+use Rattle.std.specs.Io.KnownBytes.{Appends}
+use Rattle.std.proofs.KnownBytes.{Appends-nil, Appends-trans}
+use Rattle.std.proofs.lemmas.Bool.{or_right, and_right}
+use Rattle.route_program.specs.declared.error.RunError.{RunError}
+use Rattle.route_program.specs.declared.counted.Counted.{Counted}
+use Rattle.route_program.specs.Counted.{MoreByIsMin, one_more, more_by, more_if, Flushed}
+use Rattle.route_program.specs.Devices.{Written, Delivers, has_bytes, Closed, Torn, Closes}
+
+-- a text of two has bytes where one of them has
+one_has : (s t : List ℕ) (waits : Bool) → (has_bytes t || (has_bytes s || waits)) ≡ (has_bytes (s ++ t) || waits)
+one_has [] t waits = refl
+one_has (b ∷ s) t waits = or_right (has_bytes t) true refl
+
+pub has_some : (text : List ℕ) → 0 < length text → has_bytes text ≡ true
+has_some [] h = absurd (omega arith)
+has_some (b ∷ text) h = refl
+
+-- a line has bytes
+pub line_has : (text : List ℕ) → has_bytes (text ++ codes "\n") ≡ true
+line_has [] = refl
+line_has (b ∷ text) = refl
+
+-- whether bytes wait after so many flushes
+abbrev pub waits_after : ℕ → Bool → Bool
+waits_after times waits = (times == 0) && waits
+
+pub waits_none : (times : ℕ) → waits_after times false ≡ false
+waits_none times = and_right (times == 0) false refl
+
+pub waits_more : (times : ℕ) (w : Bool) → waits_after (suc times) w ≡ false
+waits_more times w = ap (λ b. b && w) (ne_eqb (suc times) 0 (omega arith))
+
+-- flushes after flushes
+pub more_by_is_min : MoreByIsMin
+more_by_is_min zero n h = omega (arith, h)
+more_by_is_min (suc times) n h =
+    let small : one_more n ≤ 2 ^ 64 - 1 = omega (arith, h) in
+    more_by_is_min times (one_more n) small ∙ omega (arith, h)
+
+more_append : {A : Type 0} (xs ys : List A) (n : ℕ) → more_by (length (xs ++ ys)) n ≡ more_by (length ys) (more_by (length xs) n)
+more_append [] ys n = refl
+more_append (x ∷ xs) ys n = more_append xs ys (one_more n)
+
+waits_append : {A : Type 0} (xs ys : List A) (w : Bool) → waits_after (length (xs ++ ys)) w ≡ waits_after (length ys) (waits_after (length xs) w)
+waits_append [] ys w = refl
+waits_append (x ∷ xs) ys w = waits_more (length (xs ++ ys)) w ∙ sym (waits_none (length ys)) ∙ ap (waits_after (length ys)) (sym (waits_more (length xs) w))
+
+module _ {W : Type 0} where
+  Flushed-append : {A : Type 0} (xs ys : List A) (a b c : Counted W) → Flushed (length xs) a b → Flushed (length ys) b c → Flushed (length (xs ++ ys)) a c
+  Flushed-append xs ys a b c p q = (
+    q.0 ∙ ap (more_by (length ys)) p.0 ∙ sym (more_append xs ys a.flushes),
+    q.1 ∙ ap (waits_after (length ys)) p.1 ∙ sym (waits_append xs ys a.waiting),
+  )
+
+module _ {W : Type 0} (contents : W → Option (List ℕ)) where
+  pub Written-nil : (w : Counted W) → Written contents w w []
+  Written-nil w = record { appended = Appends-nil (contents w.device); faults = refl; flushes = refl; waits = refl }
+
+  pub Written-trans : (a b c : Counted W) (s t : List ℕ) → Written contents a b s → Written contents b c t → Written contents a c (s ++ t)
+  Written-trans a b c s t p q = record {
+    appended = Appends-trans _ _ _ s t p.appended q.appended;
+    faults = q.faults ∙ p.faults;
+    flushes = q.flushes ∙ p.flushes;
+    waits = q.waits ∙ ap (λ w. has_bytes t || w) p.waits ∙ one_has s t a.waiting;
+  }
+
+  pub Torn-after : (a b c : Counted W) (s t : List ℕ) → Written contents a b s → Torn contents b c t → Torn contents a c (s ++ t)
+  Torn-after a b c s t p q = record {
+    front = s ++ q.front;
+    back = q.back;
+    is_front = ap (λ l. s ++ l) q.is_front ∙ sym (append_assoc s q.front q.back);
+    appended = Appends-trans _ _ _ s q.front p.appended q.appended;
+    failed = (q.failed.0 ∙ ap (λ n. n + 1) p.faults, q.failed.1);
+    flushes = q.flushes ∙ p.flushes;
+  }
+
+  -- what is torn in a text is torn in a longer one
+  pub Torn-longer : (a b : Counted W) (s t : List ℕ) → Torn contents a b s → Torn contents a b (s ++ t)
+  Torn-longer a b s t p = record {
+    front = p.front;
+    back = p.back ++ t;
+    is_front = ap (λ l. l ++ t) p.is_front ∙ append_assoc p.front p.back t;
+    appended = p.appended;
+    failed = p.failed;
+    flushes = p.flushes;
+  }
+
+  -- the end of a reply after its beginning
+  pub Closes-written : {T : Type 0} (a b c : Counted W) (r : Result T RunError) (s t : List ℕ) → Written contents a b s → Closes contents 1 b c r t → Closes contents 1 a c r (s ++ t)
+  Closes-written a b c (Ok x) s t p q = record { appended = Appends-trans _ _ _ s t p.appended q.appended; faults = q.faults ∙ p.faults; flushed = (q.flushed.0 ∙ ap one_more p.flushes, q.flushed.1) }
+  Closes-written a b c (Err e) s t p q = (q.0, Torn-after a b c s t p q.1)
+
+  -- the end of a text after its beginning, and then all is flushed
+  pub Delivers-after : {T : Type 0} (a b c : Counted W) (r : Result T RunError) (s : List ℕ) → Written contents a b s → Delivers contents b c r [] → Delivers contents a c r s
+  Delivers-after a b c (Ok x) s p q = record {
+    appended = subst (Appends (contents a.device) (contents c.device)) (append-nil s) (Appends-trans _ _ _ s [] p.appended q.appended);
+    faults = q.faults ∙ p.faults;
+    flushed = (q.flushed.0 ∙ ap (λ w. more_if w b.flushes) p.waits ∙ ap (more_if (has_bytes s || a.waiting)) p.flushes, q.flushed.1);
+  }
+  Delivers-after a b c (Err e) s p q = (q.0, subst (Torn contents a c) (append-nil s) (Torn-after a b c s [] p q.1))
+
+  -- a flush of bytes that waited closes a reply
+  pub Closes-delivered : {T : Type 0} (a b : Counted W) (r : Result T RunError) → a.waiting ≡ true → Delivers contents a b r [] → Closes contents 1 a b r []
+  Closes-delivered a b (Ok x) waits q = record { appended = q.appended; faults = q.faults; flushed = (q.flushed.0 ∙ ap (λ w. more_if w a.flushes) waits, q.flushed.1) }
+  Closes-delivered a b (Err e) waits q = q
+
+  -- and then nothing more
+  pub Closes-end : {T : Type 0} (a b c : Counted W) (r : Result T RunError) (s : List ℕ) → Written contents a b s → Closes contents 1 b c r [] → Closes contents 1 a c r s
+  Closes-end a b c r s p q = subst (Closes contents 1 a c r) (append-nil s) (Closes-written a b c r s [] p q)
+
+  pub Closed-nil : (w : Counted W) → Closed contents 0 w w []
+  Closed-nil w = record { appended = Appends-nil (contents w.device); faults = refl; flushed = (refl, refl) }
+
+  -- replies after replies
+  pub Closed-after : {A : Type 0} (xs ys : List A) (a b c : Counted W) (s t : List ℕ) → Closed contents (length xs) a b s → Closed contents (length ys) b c t → Closed contents (length (xs ++ ys)) a c (s ++ t)
+  Closed-after xs ys a b c s t p q = record { appended = Appends-trans _ _ _ s t p.appended q.appended; faults = q.faults ∙ p.faults; flushed = Flushed-append xs ys a b c p.flushed q.flushed }

@@ -1,0 +1,70 @@
+use Rattle.std.proofs.Common.{inl, inr, take, Ok, Err, refl, ap, ◌∙◌, arith}
+use Rattle.std.proofs.KnownBytes.{Consumes-kept}
+use Rattle.std.proofs.lemmas.Result.{err_from_is_err_and}
+use Rattle.route_lines.specs.Lines.{rest_in}
+use Rattle.route_lines.proofs.Cutting.{new_rest_in}
+use Rattle.route_program.proofs.SinkRun.{Went-nil, Went-more, went_lines}
+use Rattle.route_program.proofs.sink.run.Goals as goal
+
+pub loop-read-init : goal.loop-read-init
+loop-read-init g c = record {
+  went = rw c.new-cutter.ensures (Went-nil g.S.Sink.takes g.R.Read.remaining c.args.sink.now c.args.reader.now c.args.writer.now);
+  can = c.requires.sink;
+  reads = omega arith;
+  faults = refl;
+}
+
+pub loop-read-preserved : goal.loop-read-preserved
+loop-read-preserved g c =
+    let inv = c.loop-read.invariant in
+    let piece = take c.in-Ok.count c.read.new.buf in
+    record {
+      went = Went-more g.S.Sink.takes g.R.Read.remaining c.args.sink.now c.loop-read.sink c.take_piece.new.sink c.args.reader.now c.loop-read.reader c.read.new.self c.args.writer.now c.loop-read.writer c.take_piece.new.writer
+          c.loop-read.cutter c.take_piece.new.cutter piece (Ok tt) inv.went c.in-Ok.ensures.bytes.0 c.in_ok-take_piece.ensures.takes c.in_ok-take_piece.ensures.cutter;
+      can = c.in_ok-take_piece.ensures.others;
+      reads = omega (arith, c.in-Ok.ensures.reads, inv.reads, c.requires.reader.0);
+      faults = c.in-Ok.ensures.faults ∙ inv.faults;
+    }
+
+pub returns-in_err-take_piece : goal.returns-in_err-take_piece
+returns-in_err-take_piece g c =
+    let p = err_from_is_err_and c.from_residual.result c.from_residual.ensures.1 in
+    let inv = c.loop-read.invariant in
+    let went = Went-more g.S.Sink.takes g.R.Read.remaining c.args.sink.now c.loop-read.sink c.take_piece.new.sink c.args.reader.now c.loop-read.reader c.read.new.self c.args.writer.now c.loop-read.writer c.take_piece.new.writer
+    c.loop-read.cutter c.take_piece.new.cutter (take c.in-Ok.count c.read.new.buf) (Err c.in_err-take_piece.field-0.0) inv.went c.in-Ok.ensures.bytes.0 c.in_err-take_piece.ensures.takes tt in
+    rw (p.1, p.2) (record { bytes = went.bytes; read = went.read; ends = inr (went_lines g.S.Sink.takes g.R.Read.remaining _ _ _ _ _ _ _ _ went, c.in-Ok.ensures.faults ∙ inv.faults) })
+
+pub returns-in_default : goal.returns-in_default
+returns-in_default g c =
+    let inv = c.loop-read.invariant in
+    record {
+      bytes = inv.went.bytes;
+      read = Consumes-kept _ _ _ inv.went.bytes inv.went.read c.in_default.ensures.bytes;
+      ends = inl (went_lines g.S.Sink.takes g.R.Read.remaining _ _ _ _ _ _ _ _ inv.went, refl, inl (omega (arith, c.in_default.ensures.faults, inv.faults, c.requires.reader.1), c.in_default.ensures.failing));
+    }
+
+pub returns-then-count-eq0 : goal.returns-then-count-eq0
+returns-then-count-eq0 g c =
+    let inv = c.loop-read.invariant in
+    let piece = take c.in-Ok.count c.read.new.buf in
+    let went = Went-more g.S.Sink.takes g.R.Read.remaining c.args.sink.now c.loop-read.sink c.take_piece.new.sink c.args.reader.now c.loop-read.reader c.read.new.self c.args.writer.now c.loop-read.writer c.take_piece.new.writer
+    c.loop-read.cutter c.take_piece.new.cutter piece (Ok tt) inv.went c.in-Ok.ensures.bytes.0 c.in_ok-take_piece.ensures.takes c.in_ok-take_piece.ensures.cutter in
+    record {
+      bytes = went.bytes;
+      read = went.read;
+      ends = (
+        went_lines g.S.Sink.takes g.R.Read.remaining _ _ _ _ _ _ _ _ went,
+        c.rest.ensures ∙ ap rest_in went.kept ∙ new_rest_in went.bytes,
+        c.in-Ok.ensures.bytes.1 c.if-count-eq0.true (omega (arith, c.requires.room)),
+        c.in-Ok.ensures.faults ∙ inv.faults,
+      );
+    }
+
+pub returns : goal.returns
+returns g c =
+    let inv = c.loop-read.invariant in
+    record {
+      bytes = inv.went.bytes;
+      read = inv.went.read;
+      ends = inl (went_lines g.S.Sink.takes g.R.Read.remaining _ _ _ _ _ _ _ _ inv.went, refl, inr (omega (arith, inv.reads), inv.faults));
+    }

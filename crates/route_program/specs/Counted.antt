@@ -1,0 +1,58 @@
+-- The counts of a counted device.
+use Rattle.std.specs.Prelude.{◌≡◌, ℕ, zero, suc, ◌⊎◌, ◌≤◌, ◌+◌, ◌-◌, ◌^◌, ◌<◌, ◌==◌, min, nat_lt, Bool, true, false, ◌&&◌, ◌||◌, if◌then◌else◌, is_some, slice_get, List, Result, Ok, Err}
+use Rattle.route_program.specs.declared.counted.Counted.{Counted}
+
+-- n + 1, up to the greatest u64
+abbrev pub one_more : ℕ → ℕ
+one_more n = min (n + 1) (2 ^ 64 - 1)
+
+-- `one_more` applied `times` times
+abbrev pub more_by : ℕ → ℕ → ℕ
+more_by zero n = n
+more_by (suc times) n = more_by times (one_more n)
+
+-- this is a sum up to the greatest u64
+abbrev pub MoreByIsMin : Type 0
+MoreByIsMin = (times n : ℕ) → n ≤ 2 ^ 64 - 1 → more_by times n ≡ min (n + times) (2 ^ 64 - 1)
+
+-- one more if there was a fault
+abbrev pub more_if : Bool → ℕ → ℕ
+more_if fault n = if fault then one_more n else n
+
+-- a `write` of a piece of this length failed, or wrote none of a nonempty one
+abbrev pub took_none : {E : Type 0} → Result ℕ E → ℕ → Bool
+took_none (Ok n) length = (n == 0) && nat_lt 0 length
+took_none (Err e) length = true
+
+-- a `write` wrote some bytes
+abbrev pub took_some : {E : Type 0} → Result ℕ E → Bool
+took_some (Ok n) = nat_lt 0 n
+took_some (Err e) = false
+
+-- one more fault can be counted
+abbrev pub CanCount : {D : Type 0} → Counted D → Type 0
+CanCount c = c.faults < 2 ^ 64 - 1
+
+-- the counts of reads and faults of a reader are below 2^63, as in a new one
+abbrev pub CanRead : {R : Type 0} → Counted R → Type 0
+CanRead reader = (reader.reads < 2 ^ 63) × (reader.faults < 2 ^ 63)
+
+-- the precondition of a run: the counts of its reader and its writer are below 2^63, as in new ones
+abbrev pub CanRun : {R W : Type 0} → Counted R → Counted W → Type 0
+CanRun reader writer = CanRead reader × (writer.faults < 2 ^ 63)
+
+-- the device failed once, in its last call
+abbrev pub FailedLast : {D : Type 0} → Counted D → Counted D → Type 0
+FailedLast from to = (to.faults ≡ from.faults + 1) × (to.failing ≡ true)
+
+-- the reader failed, and was not called again; or it was called 2^62 times, and never failed
+abbrev pub ReadFault : {R : Type 0} → Counted R → Counted R → Type 0
+ReadFault from to = FailedLast from to ⊎ ((from.reads + 2 ^ 62 ≤ to.reads) × (to.faults ≡ from.faults))
+
+-- bytes were written and then flushed, `times` times, and nothing was written after that
+abbrev pub Flushed : {W : Type 0} → ℕ → Counted W → Counted W → Type 0
+Flushed times old new = (new.flushes ≡ more_by times old.flushes) × (new.waiting ≡ (times == 0 && old.waiting))
+
+-- earlier unflushed bytes and this text were flushed, once, and nothing is unflushed; if there were no bytes, no flush counts
+abbrev pub FlushedAll : {W : Type 0} → List ℕ → Counted W → Counted W → Type 0
+FlushedAll text old new = (new.flushes ≡ if is_some (slice_get text 0) || old.waiting then one_more old.flushes else old.flushes) × (new.waiting ≡ false)

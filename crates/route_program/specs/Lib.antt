@@ -1,0 +1,4 @@
+pub mod Counted
+pub mod Status
+pub mod Devices
+pub mod Run
