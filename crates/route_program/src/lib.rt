@@ -1,4 +1,4 @@
-//! What programs over lines share: devices that count, input and output, a run that passes each line on, and exit statuses.
+//! The parts that programs over lines share: devices that count, input and output, a run that passes each line on, and exit statuses.
 #![tactic(auto)]
 
 pub use at_end::AtEnd;

@@ -8,7 +8,10 @@ use crate::error::RunError;
 use route_lines::Closing;
 use std::io::Write;
 
-/// Writes the piece; if it fails, only a beginning of the piece.
+/// Writes the piece.
+///
+/// # Errors
+/// Only `Write`: if `write` fails or writes nothing. Then only a beginning of the piece was written.
 pub fn write_piece<W: Write>(writer: &mut Counted<W>, piece: &[u8]) -> Result<(), RunError>
     requires { CanCount writer.old }
     ensures { Writes W.contents writer.old writer.new result piece.now }
@@ -28,7 +31,7 @@ pub fn write_piece<W: Write>(writer: &mut Counted<W>, piece: &[u8]) -> Result<()
     Ok(())
 }
 
-/// Flushes.
+/// Flushes the writer. A flush counts if bytes were written since the last one.
 ///
 /// # Errors
 /// Only `Write`: if `flush` fails.
