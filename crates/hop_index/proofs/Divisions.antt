@@ -1,34 +1,53 @@
 -- Cells lead each number on to fewer ranges.
-use Rattle.std.proofs.Common.{◌≡◌, ℕ, ◌+◌, ◌-◌, ◌*◌, ◌/◌, ◌%◌, ◌^◌, ◌<◌, ◌≤◌, ⊎_elim, List, [], ◌∷◌, ◌++◌, Option, Some, None, length, length-append, get_or, refl, sym, subst, arith}
+use Rattle.std.proofs.Common.{◌≡◌, ℕ, ◌+◌, ◌-◌, ◌*◌, ◌/◌, ◌%◌, ◌^◌, ◌<◌, ◌≤◌, ⊎_elim, List, [], ◌∷◌, ◌++◌, Option, Some, None, length, length-append, get_or, refl, sym, ap, ◌∙◌, subst, arith}
 use Rattle.std.proofs.lemmas.Bool.{cases_lt}
 use Rattle.std.proofs.lemmas.List.{get_or_append_left, get_or-append-add, get_or_push}
-use Rattle.std.proofs.lemmas.Nat.{pow_pos}
-use Rattle.std.proofs.Math.Nat.{div-lt_iff_lt-mul, mul-le-mul_right, mul-lt-mul_of_pos_right}
-use Rattle.hop_index.specs.Ranges.{HopRange}
+use Rattle.std.proofs.lemmas.Nat.{mod-pow-add, pow-add, pow_pos}
+use Rattle.std.proofs.Math.Nat.{div-div-eq-div-mul, div-lt_iff_lt-mul, mul-le-mul_right, mul-lt-mul_of_pos_right}
+use Rattle.hop_index.specs.Ranges.{HopRange, hop_in}
 use Rattle.hop_index.specs.InnerRanges.{ArePadded, AreTops, EndsBelow, cell_of, head_of}
-use Rattle.hop_index.specs.InnerNodes.{AreEntries, AreNodes, IsBetween, Leads, StoredNode, cell_by, cell_in}
-use Rattle.hop_index.proofs.Searches.{before_pads, divided_ascends, fewer_from, head_ascends}
+use Rattle.hop_index.specs.InnerNodes.{AreEntries, AreNodes, HasHop, IsBetween, Leads, StoredNode, cell_by, cell_in, hop_in_entry}
+use Rattle.hop_index.proofs.Searches.{before_pads, divided_ascends, ends_from, fewer_from, found, head_ascends}
 
 -- the cell of a higher number is no lower in a node
 cell_in_ascends : (n : StoredNode) (x y : ℕ) → x ≤ y → cell_in n x ≤ cell_in n y
 cell_in_ascends n x y le = let d = divided_ascends (x - n.first) (y - n.first) n.shift (omega arith) in omega arith
 
+-- how many steps of 2 ^ s a number is above a multiple of 2 ^ s, by their first bits
+pub steps_by_head : (x first s : ℕ) → 64 ≤ s → first % 2 ^ s ≡ 0 → (x / 2 ^ 64 - first / 2 ^ 64) / 2 ^ (s - 64) ≡ (x - first) / 2 ^ s
+steps_by_head x first s more whole =
+    let parts : 2 ^ s ≡ 2 ^ 64 * 2 ^ (s - 64) = subst (λ (k : ℕ). 2 ^ k ≡ 2 ^ 64 * 2 ^ (s - 64)) {x = 64 + (s - 64)} (omega arith) (pow-add 2 64 (s - 64)) in
+    let low : first % 2 ^ 64 ≡ 0 = subst (λ (k : ℕ). first % 2 ^ k ≡ 0 → first % 2 ^ 64 ≡ 0) {x = s - 64 + 64} (omega arith) (λ e. let m = mod-pow-add first (s - 64) 64 in omega arith) whole in
+    let heads : x / 2 ^ 64 - first / 2 ^ 64 ≡ (x - first) / 2 ^ 64 = omega arith in
+    ap (λ (k : ℕ). k / 2 ^ (s - 64)) heads ∙ (div-div-eq-div-mul (x - first) (2 ^ 64) (2 ^ (s - 64)) ∙ ap (λ (k : ℕ). (x - first) / k) (sym parts))
+
 -- a cell with few ranges leads by their number
-pub few_lead : (nodes : List StoredNode) (rs : List HopRange) (end x before after : ℕ) → ArePadded rs end → x < end → length rs < 2147483648 → after ≤ before + 4 → IsBetween rs x before after → Leads nodes rs x before
+pub few_lead : (nodes : List StoredNode) (rs : List HopRange) (end x before after : ℕ) → ArePadded rs end → x < end → length rs < 1073741824 → after ≤ before + 4 → IsBetween rs x before after → Leads nodes rs x before
 few_lead nodes rs end x before after p l few le b =
     let w = b.below.within in
     let pads = before_pads rs end x before p l b.below in
     record {
       few = λ less. record { below = b.below; from = fewer_from rs x after (before + 4) le pads b.from };
+      hop = λ h. absurd (let l = h.0 in omega arith);
       within = λ more. absurd (omega arith);
       many = λ more d. absurd (omega arith);
     }
+
+-- the entry of a hop leads on the numbers that have it
+pub hop_leads : (nodes : List StoredNode) (rs : List HopRange) (x e : ℕ) → HasHop e → hop_in rs x ≡ hop_in_entry e → Leads nodes rs x e
+hop_leads nodes rs x e h is = record {
+  few = λ less. absurd (let l = h.0 in omega arith);
+  hop = λ has. is;
+  within = λ more. absurd (let l = h.1 in omega arith);
+  many = λ more d. absurd (let l = h.1 in omega arith);
+}
 
 -- one more node
 module _ (nodes : List StoredNode) (n : StoredNode) (rs : List HopRange) where
   pub leads_more : (x e : ℕ) → Leads nodes rs x e → Leads (nodes ++ n ∷ []) rs x e
   leads_more x e h = record {
     few = h.few;
+    hop = h.hop;
     within = λ more. let w = h.within more in let l : length (nodes ++ n ∷ []) ≡ length nodes + 1 = length-append nodes (n ∷ []) in omega arith;
     many = λ more d. subst (λ (m : StoredNode). IsBetween rs x m.before m.after) (sym (get_or_append_left nodes (n ∷ []) d (e - 2147483648) (h.within more))) (h.many more d);
   }
@@ -36,6 +55,7 @@ module _ (nodes : List StoredNode) (n : StoredNode) (rs : List HopRange) where
   pub leads_to_it : (x e : ℕ) → e ≡ 2147483648 + length nodes → IsBetween rs x n.before n.after → Leads (nodes ++ n ∷ []) rs x e
   leads_to_it x e is b = record {
     few = λ less. absurd (omega arith);
+    hop = λ h. absurd (let l = h.1 in omega arith);
     within = λ more. let l : length (nodes ++ n ∷ []) ≡ length nodes + 1 = length-append nodes (n ∷ []) in omega arith;
     many = λ more d. subst (λ (m : StoredNode). IsBetween rs x m.before m.after) (sym (get_or_push nodes n d (e - 2147483648) (omega arith))) b;
   }
@@ -126,6 +146,20 @@ cell_by_ascends width (Some tops) are n x y le l =
     let head : head_of width y < 2 ^ 64 = (div-lt_iff_lt-mul {k = 2 ^ width} {x = y * 2 ^ 64} {y = 2 ^ 64} (pow_pos width)).1 (omega arith) in
     cell_ascends tops (are tops refl) (head_of width x) (head_of width y) (head_ascends width x y le) head
 
+-- a cell that ends in the range at `place` at the latest, where no earlier range ends, has its hop
+pub one_hop : (width : ℕ) (tops : Option (List ℕ)) → ((ts : List ℕ) → tops ≡ Some ts → AreTops ts) → (n : StoredNode) (rs : List HopRange) → ArePadded rs (2 ^ width) → (place c : ℕ) (d : HopRange) → place < length rs
+    → ((get_or rs place d).last + 1 < 2 ^ width → c < cell_by width tops n ((get_or rs place d).last + 1)) → (x : ℕ) → x < 2 ^ width → cell_by width tops n x ≡ c → EndsBelow rs x place → hop_in rs x ≡ (get_or rs place d).hop
+one_hop width tops are n rs padded place c d place_in later x x_in is below =
+    let last : ℕ = (get_or rs place d).last in
+    let le : x ≤ last = ⊎_elim
+    (λ (less : last < x).
+    let u : cell_by width tops n (last + 1) ≤ cell_by width tops n x = cell_by_ascends width tops are n (last + 1) x (omega arith) x_in in
+    let b : c < cell_by width tops n (last + 1) = later (omega arith) in
+    absurd (omega arith))
+    (λ (more : x ≤ last). more)
+    (cases_lt last x) in
+    found rs place d x place_in below (ends_from rs x place d padded.ascending place_in le)
+
 -- entries lead on the numbers of the first c cells of a node, in which its ranges up to `place` end
 pub record AreLed (width : ℕ) (tops : Option (List ℕ)) (n : StoredNode) (rs : List HopRange) (nodes : List StoredNode) (c place : ℕ) (entries : List ℕ) : Type 0 where
   pub least : n.before ≤ place
@@ -138,7 +172,7 @@ pub record AreLed (width : ℕ) (tops : Option (List ℕ)) (n : StoredNode) (rs 
 pub led_on : (width : ℕ) (tops : Option (List ℕ)) → ((ts : List ℕ) → tops ≡ Some ts → AreTops ts) → (n : StoredNode) (rs : List HopRange) → ArePadded rs (2 ^ width) → n.after ≤ length rs
     → (nodes new : List StoredNode) (c place next e : ℕ) (entries : List ℕ) → AreLed width tops n rs nodes c place entries → place ≤ next → next ≤ n.after
     → ((k : ℕ) (d : HopRange) → place ≤ k → k < next → cell_by width tops n (get_or rs k d).last ≤ c) → (next < n.after → (d : HopRange) → c < cell_by width tops n (get_or rs next d).last)
-    → ((x f : ℕ) → Leads nodes rs x f → Leads new rs x f) → ((x : ℕ) → x < 2 ^ width → IsBetween rs x place next → Leads new rs x e) → AreLed width tops n rs new (c + 1) next (entries ++ e ∷ [])
+    → ((x f : ℕ) → Leads nodes rs x f → Leads new rs x f) → ((x : ℕ) → x < 2 ^ width → cell_by width tops n x ≡ c → IsBetween rs x place next → Leads new rs x e) → AreLed width tops n rs new (c + 1) next (entries ++ e ∷ [])
 led_on width tops are n rs padded within nodes new c place next e entries i least most inside beyond kept leads =
     let cell : ℕ → ℕ = cell_by width tops n in
     let up : (x y : ℕ) → x ≤ y → y < 2 ^ width → cell x ≤ cell y = cell_by_ascends width tops are n in
@@ -160,6 +194,6 @@ led_on width tops are n rs padded within nodes new c place next e entries i leas
           (λ more.
           let is : cell x ≡ c = omega arith in
           subst (λ (v : ℕ). Leads new rs x v) (sym (get_or_push entries e 0 (cell x) (omega (arith, i.all))))
-          (leads x x_in (narrowed cell (2 ^ width) up rs x n.before n.after place next padded.within x_in b (omega arith) (omega arith) (λ k d m k_in. let o : cell (get_or rs k d).last < c = i.earlier k d m k_in in omega arith) (λ k d m k_in. let o = later k d m k_in in omega arith))))
+          (leads x x_in is (narrowed cell (2 ^ width) up rs x n.before n.after place next padded.within x_in b (omega arith) (omega arith) (λ k d m k_in. let o : cell (get_or rs k d).last < c = i.earlier k d m k_in in omega arith) (λ k d m k_in. let o = later k d m k_in in omega arith))))
           (cases_lt (cell x) c);
     }

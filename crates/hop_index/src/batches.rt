@@ -1,11 +1,11 @@
 //! Lookups of many addresses, in steps, so that reads of memory for several addresses overlap.
-ghost use Rattle.std.specs.Prelude.{◌≡◌, ℕ, ◌≤◌, Option, length, map};
+ghost use Rattle.std.specs.Prelude.{◌≡◌, ℕ, ◌<◌, ◌≤◌, ◌⊎◌, Option, length, map, slice_index_or};
 ghost use Rattle.ipnet_addr.specs.Addresses.{Address, Ipv4, address_of};
 ghost use Rattle.hop_index.specs.Indexes.{hop_number, hop_of};
-ghost use Rattle.hop_index.specs.InnerNodes.{AllLead, ArePlaces, index_of};
+ghost use Rattle.hop_index.specs.InnerNodes.{AllLead, AreCells, AreFound, ArePlaces, HasHop, IsPlace, hop_in_entry, index_of};
 
 use crate::index::Sides;
-use crate::nodes::{LEVELS, MARK};
+use crate::nodes::{LEVELS, MARK, has_hop, hop_in_entry};
 use ipnet::IpAddr;
 use ipnet_addr::bits::ipv4_of;
 
@@ -73,13 +73,24 @@ impl FromHop for u64 {
     }
 }
 
-/// The first step: the entry of each address's cell.
-fn enter<A: Addressed>(sides: &Sides, addrs: &[A], entries: &mut [u32])
-    requires { length entries.old ≡ length addrs.now }
+/// The first step: the cell of each address.
+fn locate<A: Addressed>(sides: &Sides, addrs: &[A], cells: &mut [usize])
+    requires { length cells.old ≡ length addrs.now }
+    ensures { AreCells sides.now.v4 sides.now.v6 A.address addrs.now cells.new }
+{
+    for place in 0..addrs.len() {
+        cells[place] = sides.cell(addrs[place].addr());
+    }
+}
+
+/// The second step: the entry of each cell.
+fn enter<A: Addressed>(sides: &Sides, addrs: &[A], cells: &[usize], entries: &mut [u32])
+    requires cells { AreCells sides.now.v4 sides.now.v6 A.address addrs.now cells.now }
+    requires entries { length entries.old ≡ length addrs.now }
     ensures { AllLead sides.now.v4 sides.now.v6 A.address addrs.now entries.new }
 {
     for place in 0..addrs.len() {
-        entries[place] = sides.entry(addrs[place].addr());
+        entries[place] = sides.entry(cells[place], addrs[place].addr());
     }
 }
 
@@ -110,15 +121,15 @@ fn follow<A: Addressed>(sides: &Sides, addrs: &[A], entries: &mut [u32], places:
     }
 }
 
-/// The second step, level by level: the entry that nodes lead each address to.
-fn lead<A: Addressed>(sides: &Sides, addrs: &[A], entries: &mut [u32])
-    requires few { length addrs.now ≤ 32 }
+/// The third step, level by level: the entry that nodes lead each address to.
+fn lead<A: Addressed>(sides: &Sides, addrs: &[A], places: &mut [usize], entries: &mut [u32])
+    requires places { length places.old ≡ length addrs.now }
     requires entries { AllLead sides.now.v4 sides.now.v6 A.address addrs.now entries.old }
-    ensures { AllLead sides.now.v4 sides.now.v6 A.address addrs.now entries.new }
+    ensures all { length places.new ≡ length addrs.now }
+    ensures entries { AllLead sides.now.v4 sides.now.v6 A.address addrs.now entries.new }
 {
-    let mut places = [0; GROUP];
     for _ in 0..LEVELS {
-        let count = list_nodes(entries, &mut places[..addrs.len()]);
+        let count = list_nodes(entries, places);
         if count == 0 {
             break;
         }
@@ -126,15 +137,81 @@ fn lead<A: Addressed>(sides: &Sides, addrs: &[A], entries: &mut [u32])
     }
 }
 
-/// The third step: the hop of each address, from its entry.
-fn find<A: Addressed, H: FromHop>(sides: &Sides, addrs: &[A], entries: &[u32], hops: &mut [H])
+/// 0 for an IPv4 address whose entry has a hop, else 1.
+#[inline(always)]
+fn other(entry: u32, addr: IpAddr) -> usize
+    ensures most { result ≤ 1 }
+    ensures hop { result ≡ 0 → HasHop entry }
+{
+    usize::from(!(addr.is_ipv4() && has_hop(entry)))
+}
+
+/// Stores the places of addresses whose entries have no hop first, and returns their number. No branch depends on an entry. For IPv6
+/// these are all.
+fn list_others<A: Addressed>(addrs: &[A], entries: &[u32], places: &mut [usize]) -> usize
+    requires entries { length entries.now ≡ length addrs.now }
+    requires places { length places.old ≡ length addrs.now }
+    ensures all { length places.new ≡ length addrs.now }
+    ensures places { ArePlaces (length addrs.now) result places.new }
+    ensures others { (k e : ℕ) → k < length addrs.now → HasHop (slice_index_or entries.now k e) ⊎ IsPlace k 0 result places.new }
+    ensures every { result ≡ length addrs.now → (k : ℕ) → k < length addrs.now → IsPlace k 0 result places.new }
+{
+    let mut count = 0;
+    for place in 0..addrs.len() {
+        places[count] = place;
+        count += other(entries[place], addrs[place].addr());
+    }
+    count
+}
+
+/// The fourth step: the hops of entries that have one. The others get any hop.
+fn tell<H: FromHop>(entries: &[u32], hops: &mut [H])
+    requires { length hops.old ≡ length entries.now }
+    ensures all { length hops.new ≡ length entries.now }
+    ensures each { (k e : ℕ) (h : H) → k < length entries.now → slice_index_or hops.new k h ≡ H.of_hop (hop_in_entry (slice_index_or entries.now k e)) }
+{
+    for place in 0..entries.len() {
+        hops[place] = H::from_hop(hop_in_entry(entries[place]));
+    }
+}
+
+/// The fifth step: the hops of the addresses at these places, from their entries.
+fn find<A: Addressed, H: FromHop>(
+    sides: &Sides,
+    addrs: &[A],
+    entries: &[u32],
+    places: &[usize],
+    hops: &mut [H],
+)
     requires entries { AllLead sides.now.v4 sides.now.v6 A.address addrs.now entries.now }
+    requires places { ArePlaces (length addrs.now) (length places.now) places.now }
+    requires others { AreFound (λ addr. H.of_hop (hop_of (index_of sides.now.v4 sides.now.v6) (A.address addr))) addrs.now places.now 0 hops.old }
+    ensures { AreFound (λ addr. H.of_hop (hop_of (index_of sides.now.v4 sides.now.v6) (A.address addr))) addrs.now places.now (length places.now) hops.new }
+{
+    for at in 0..places.len() {
+        let place = places[at];
+        hops[place] = H::from_hop(sides.hop(entries[place], addrs[place].addr()));
+    }
+}
+
+/// Stores the hops of at most 32 addresses.
+fn store<A: Addressed, H: FromHop>(sides: &Sides, addrs: &[A], hops: &mut [H])
+    requires few { length addrs.now ≤ 32 }
     requires hops { length hops.old ≡ length addrs.now }
     ensures { hops.new ≡ map (λ addr. H.of_hop (hop_of (index_of sides.now.v4 sides.now.v6) (A.address addr))) addrs.now }
 {
-    for place in 0..addrs.len() {
-        hops[place] = H::from_hop(sides.hop(entries[place], addrs[place].addr()));
+    let mut places = [0; GROUP];
+    let mut entries = [0; GROUP];
+    let places = &mut places[..addrs.len()];
+    let entries = &mut entries[..addrs.len()];
+    locate(sides, addrs, places);
+    enter(sides, addrs, places, entries);
+    lead(sides, addrs, places, entries);
+    let count = list_others(addrs, entries, places);
+    if count < addrs.len() {
+        tell(entries, hops);
     }
+    find(sides, addrs, entries, &places[..count], hops);
 }
 
 /// Stores the hops of all addresses, group by group.
@@ -142,15 +219,10 @@ pub(crate) fn store_all<A: Addressed, H: FromHop>(sides: &Sides, addrs: &[A], ho
     requires { length hops.old ≡ length addrs.now }
     ensures { hops.new ≡ map (λ addr. H.of_hop (hop_of (index_of sides.now.v4 sides.now.v6) (A.address addr))) addrs.now }
 {
-    let mut entries = [0; GROUP];
     let mut place = 0;
     while place < addrs.len() {
         let end = place + (addrs.len() - place).min(GROUP);
-        let group = &addrs[place..end];
-        let entries = &mut entries[..group.len()];
-        enter(sides, group, entries);
-        lead(sides, group, entries);
-        find(sides, group, entries, &mut hops[place..end]);
+        store(sides, &addrs[place..end], &mut hops[place..end]);
         place = end;
     }
 }

@@ -21,16 +21,29 @@ fn after_chunk<N: Stored>(ranges: &Ranges<N>, mut place: usize, chunk: u64) -> u
     place
 }
 
-/// The first cell of each chunk, and the number of all cells. A chunk has a cell for each range that ends in it, and one more.
+/// The number of cells of a chunk in which `count` ranges end: the least power of two from three quarters of it on. So a cell mostly has
+/// the addresses of a network.
+fn cells_of(count: usize) -> usize
+    requires { count ≤ 2 ^ 63 }
+    ensures some { 0 < result }
+    ensures few { result ≤ 2 * count + 1 }
+{
+    (count - count / 4).max(1).next_power_of_two()
+}
+
+/// The first cell of each chunk, and the number of all cells.
 pub(crate) fn tops_of<N: Stored>(alloc: Global, ranges: &Ranges<N>) -> Result<Vec<u32>, AllocError>
-    requires { length ranges.now < 2147483648 }
+    requires { length ranges.now < 1073741824 }
     ensures { IfOk result (λ tops. AreTops tops.items) }
 {
     let mut tops = Vec::with_capacity(alloc, CHUNKS + 1)?;
+    let mut first = 0;
     let mut place = 0;
     for chunk in 0..CHUNKS + 1 {
-        tops.push((place + chunk) as u32)?;
-        place = after_chunk(ranges, place, chunk as u64);
+        tops.push(first as u32)?;
+        let next = after_chunk(ranges, place, chunk as u64);
+        first += cells_of(next - place);
+        place = next;
     }
     Ok(tops)
 }

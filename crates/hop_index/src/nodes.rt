@@ -1,8 +1,8 @@
 //! Nodes: cells in which many ranges end, divided again.
-ghost use Rattle.std.specs.Prelude.{◌≡◌, ℕ, ◌+◌, ◌-◌, ◌^◌, ◌<◌, ◌≤◌, ◌++◌, [], ◌∷◌, List, Some, IfOk, OnOk, length, option_copied, slice_index_or};
+ghost use Rattle.std.specs.Prelude.{◌≡◌, ℕ, ◌+◌, ◌-◌, ◌^◌, ◌<◌, ◌≤◌, ◌↔◌, ◌++◌, [], ◌∷◌, List, Some, IfOk, IfSome, IsTrue, OnOk, length, option_copied, slice_index_or};
 ghost use Rattle.hop_index.specs.Ranges.{HopRange, hop_in};
 ghost use Rattle.hop_index.specs.InnerRanges.{AreAscending, ArePadded, AreTops, EndsBelow, EndsFrom};
-ghost use Rattle.hop_index.specs.InnerNodes.{AreEntries, AreNodes, IsBetween, Leads, StoredNode, cell_by, cell_in};
+ghost use Rattle.hop_index.specs.InnerNodes.{AreEntries, AreNodes, HasHop, IsBetween, Leads, StoredNode, cell_by, cell_in, hop_in_entry};
 
 use crate::cells::cell_at;
 use crate::ranges::Ranges;
@@ -10,11 +10,45 @@ use crate::stored::{Stored, highest};
 use std::alloc::{AllocError, Global};
 use std::marker::Model;
 
+/// Entries from here on have a hop.
+pub(crate) const HOPS: u32 = 1 << 30;
+
 /// Entries from here on are nodes.
 pub(crate) const MARK: u32 = 1 << 31;
 
 /// The most nodes on the way to an entry.
 pub(crate) const LEVELS: u32 = 3;
+
+/// Whether the entry has a hop.
+#[inline(always)]
+pub(crate) fn has_hop(entry: u32) -> bool
+    ensures { IsTrue result ↔ HasHop entry }
+{
+    HOPS <= entry && entry < MARK
+}
+
+/// The hop of an entry that has one.
+#[inline(always)]
+pub(crate) fn hop_in_entry(entry: u32) -> Option<u32>
+    ensures { result ≡ hop_in_entry entry }
+{
+    if entry % HOPS == HOPS - 1 {
+        None
+    } else {
+        Some(entry % HOPS)
+    }
+}
+
+/// The entry of a hop, or none if its number is too large for an entry.
+fn entry_of(hop: Option<u32>) -> Option<u32>
+    ensures { IfSome result (λ e. HasHop e × (hop_in_entry e ≡ hop)) }
+{
+    match hop {
+        None => Some(MARK - 1),
+        Some(hop) if hop < HOPS - 1 => Some(HOPS + hop),
+        Some(_) => None,
+    }
+}
 
 /// A cell in which more than four ranges end, divided into cells of one length.
 #[derive(Drop)]
@@ -28,24 +62,24 @@ pub(crate) struct Node<N: Stored> {
 }
 
 impl<N: Stored> Model for Node<N> {
-    ghost use Rattle.std.specs.Prelude.{◌<◌};
+    ghost use Rattle.std.specs.Prelude.{◌≡◌, ◌%◌, ◌^◌, ◌<◌};
     ghost use Rattle.hop_index.specs.InnerNodes.{StoredNode};
 
     ghost Value = { StoredNode };
 
     ghost view = { λ n. record { before = n.before; after = n.after; first = N.number n.first; shift = n.shift; last = n.last; place = n.place } };
 
-    ghost invariant = { λ n. n.shift < N.width };
+    ghost invariant = { λ n. (n.shift < N.width) × (N.number n.first % 2 ^ n.shift ≡ 0) };
 }
 
-/// The length of the cells of a node of `count` ranges from `first` to `last`, as a power of two.
-fn shift_of<N: Stored>(first: N, last: N, count: u32) -> u32
+/// The length of the cells of a node of `count` ranges whose last numbers are up to `span` apart, as a power of two.
+fn shift_of(span: u128, count: u32) -> u32
     requires { 0 < count }
-    ensures { result < N.width }
+    ensures { result < 128 }
 {
-    let log = last.log_above(first);
+    let log = span.max(1).ilog2();
     let shift = log.saturating_sub(count.ilog2());
-    if last.steps(first, shift, count) < count {
+    if span >> shift < u128::from(count) {
         shift
     } else {
         shift.saturating_add(1).min(log)
@@ -63,7 +97,9 @@ impl<N: Stored> Node<N> {
     {
         let first = ranges.last(before as usize);
         let last = ranges.last(after as usize - 1);
-        let shift = shift_of(first, last, after - before);
+        let span = last.to_bits().saturating_sub(first.to_bits());
+        let shift = shift_of(span, after - before).min(u32::from(N::width()) - 1);
+        let first = N::from_bits(first.to_bits() >> shift << shift);
         let last = last.steps(first, shift, most);
         Node {
             before,
@@ -203,6 +239,30 @@ impl<N: Stored> Nodes<N> {
         self.add(node, &[own])
     }
 
+    /// The entry of the hop of all numbers of a cell, if they have one hop. No earlier range ends in the cell than that at `place`. A family
+    /// with longer numbers has few such cells, so it does without.
+    fn hop_entry(
+        &self,
+        node: &Node<N>,
+        tops: Option<&[u32]>,
+        place: u32,
+        cell: usize,
+    ) -> Option<u32>
+        requires tops { (ts : List ℕ) → option_copied tops ≡ Some ts → AreTops ts }
+        requires ranges { ArePadded self.now.ranges (2 ^ N.width) }
+        requires few { length self.now.ranges < 1073741824 }
+        ensures { IfSome result (λ e. (nodes : List StoredNode) (x : ℕ) → x < 2 ^ N.width → cell_by N.width (option_copied tops.entry) node.now x ≡ cell → EndsBelow self.now.ranges x place → Leads nodes self.now.ranges x e) }
+    {
+        if N::width() > 32 || place as usize >= self.ranges.len() {
+            return None;
+        }
+        let last = self.ranges.last(place as usize).to_bits();
+        if last < highest::<N>().to_bits() && node.cell_by(tops, N::from_bits(last + 1)) <= cell {
+            return None;
+        }
+        entry_of(self.ranges.hop(place as usize))
+    }
+
     /// The entries of the cells of a node, which are those of all chunks if there are tops. Below it are at most `levels` levels of nodes.
     pub(crate) fn entries(
         &mut self,
@@ -213,7 +273,7 @@ impl<N: Stored> Nodes<N> {
     ) -> Result<Vec<u32>, AllocError>
         requires tops { (ts : List ℕ) → option_copied tops ≡ Some ts → AreTops ts }
         requires ranges { ArePadded self.old.ranges (2 ^ N.width) }
-        requires few { length self.old.ranges < 2147483648 }
+        requires few { length self.old.ranges < 1073741824 }
         requires before { node.now.before ≤ node.now.after }
         requires after { node.now.after ≤ length self.old.ranges }
         requires nodes { AreNodes self.old.ranges (2 ^ N.width) self.old.nodes.items self.old.cells.items }
@@ -227,7 +287,9 @@ impl<N: Stored> Nodes<N> {
         let mut place = node.bounds().0;
         for cell in 0..end {
             let next = self.after_cell(node, tops, place, cell);
-            let entry = if next <= place + 4 {
+            let entry = if let Some(entry) = self.hop_entry(node, tops, place, cell) {
+                entry
+            } else if next <= place + 4 {
                 place
             } else if levels == 0 {
                 self.add_last(place, next)?
@@ -257,11 +319,12 @@ impl<N: Stored> Nodes<N> {
         self.cells[node.place(number)]
     }
 
-    /// The number of ranges that end below a number, from its entry.
+    /// The number of ranges that end below a number, from its entry, which has no hop.
     #[inline]
     pub(crate) fn ended(&self, entry: u32, number: N) -> usize
         requires ascending { AreAscending self.now.ranges }
         requires entry { Leads self.now.nodes.items self.now.ranges (N.number number) entry }
+        requires no_hop { HasHop entry → ⊥ }
         ensures below { EndsBelow self.now.ranges (N.number number) result }
         ensures from { EndsFrom self.now.ranges (N.number number) result }
     {

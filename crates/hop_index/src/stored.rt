@@ -29,13 +29,11 @@ pub(crate) trait Stored: Key {
         ensures head { result ≡ head_of Self.width (Self.number self) }
         ensures within { Self.number self < 2 ^ Self.width };
 
-    /// Returns the place of the highest bit of how much the number is above `first`, or 0.
-    fn log_above(self, first: Self) -> u32
-        ensures { result < Self.width };
-
-    /// Returns how many steps of 2^`shift` numbers the number is above `first`, or `most` if that is less.
+    /// Returns how many steps of 2^`shift` numbers the number is above `first`, or `most` if that is less. `first` must be a multiple of
+    /// 2^`shift`.
     fn steps(self, first: Self, shift: u32, most: u32) -> u32
-        requires { shift < Self.width }
+        requires shift { shift < Self.width }
+        requires first { Self.number first % 2 ^ shift ≡ 0 }
         ensures { result ≡ min most ((Self.number self - Self.number first) / 2 ^ shift) };
 }
 
@@ -69,10 +67,6 @@ impl Stored for u32 {
     #[inline]
     fn head(self) -> u64 {
         u64::from(self) << 32
-    }
-
-    fn log_above(self, first: u32) -> u32 {
-        self.saturating_sub(first).max(1).ilog2()
     }
 
     #[inline]
@@ -115,12 +109,12 @@ impl Stored for u128 {
         (self >> 64) as u64
     }
 
-    fn log_above(self, first: u128) -> u32 {
-        self.saturating_sub(first).max(1).ilog2()
-    }
-
     #[inline]
     fn steps(self, first: u128, shift: u32, most: u32) -> u32 {
+        if shift >= 64 {
+            let above = self.head().saturating_sub(first.head()) >> (shift - 64);
+            return above.min(u64::from(most)) as u32;
+        }
         (self.saturating_sub(first) >> shift).min(u128::from(most)) as u32
     }
 }

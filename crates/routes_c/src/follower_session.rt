@@ -47,7 +47,7 @@ impl FollowerSession {
         }
     }
 
-    /// KeepsContent a line.
+    /// Reads a line.
     pub(crate) fn line(&mut self, line: &[u8]) -> u32
         ensures { Follows self.old self.new line.now result }
     {

@@ -11,7 +11,7 @@ use crate::shown::{Piece, Route, ip4, ip6};
 use ipnet::IpAddr;
 use std::alloc::Global;
 
-/// KeepsContent a line of a leader's reply, given without its line end. A change is pending until its reply is closed, and `ok` commits it.
+/// Reads a line of a leader's reply, given without its line end. A change is pending until its reply is closed, and `ok` commits it.
 ///
 /// Returns 0. Fails with 2 if an allocation for a change fails, 3 if the handle is closed, and 7 if the text isn't a reply line. After a
 /// failure with 2 or 7, which are faults, each later call fails with 8.
@@ -34,7 +34,7 @@ pub extern "C" fn routes_follower_flat(alloc: Global, follower: &mut Handle) -> 
     follower.on(3, |session: &mut FollowerSession| { session.flat(alloc) })
 }
 
-/// KeepsContent the piece at an index of the list that was made last.
+/// Reads the piece at an index of the list that was made last.
 ///
 /// Returns 0 and sets `piece`. Fails with 1 past the end of the list, and 3 if the handle is closed. Then `piece` is unchanged.
 #[unsafe(no_mangle)]
@@ -117,7 +117,7 @@ pub extern "C" fn routes_follower_least(alloc: Global, follower: &mut Handle) ->
     follower.on(3, |session: &mut FollowerSession| { session.least(alloc) })
 }
 
-/// KeepsContent the route at an index of the list of routes that was made last.
+/// Reads the route at an index of the list of routes that was made last.
 ///
 /// Returns 0 and sets `route`. Fails with 1 past the end of the list, and 3 if the handle is closed. Then `route` is unchanged.
 #[unsafe(no_mangle)]

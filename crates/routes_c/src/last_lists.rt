@@ -27,7 +27,7 @@ fn shown_pieces(alloc: Global, flat: Flat<'_>) -> Result<Vec<Piece>, AllocError>
     Ok(list)
 }
 
-/// KeepsContent the item at an index.
+/// Reads the item at an index.
 pub(crate) fn tell_at<T: Copy>(items: &[T], index: usize, told: &mut T) -> u32
     ensures { Told (slice_get items.now index) result told.old told.new }
 {

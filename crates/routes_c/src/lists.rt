@@ -29,7 +29,7 @@ pub extern "C" fn routes_flat(alloc: Global, handle: &mut Handle) -> u32
     handle.on(3, |session: &mut Session| session.flat(alloc))
 }
 
-/// KeepsContent the piece at an index of the list that was made last.
+/// Reads the piece at an index of the list that was made last.
 ///
 /// Returns 0 and sets `piece`. Fails with 1 past the end of the list, and 3 if the handle is closed. Then `piece` is unchanged.
 #[unsafe(no_mangle)]
@@ -317,7 +317,7 @@ pub extern "C" fn routes_least(alloc: Global, handle: &mut Handle) -> u32
     list(alloc, handle, ListQuery::Least)
 }
 
-/// KeepsContent the route at an index of the list of routes that was made last.
+/// Reads the route at an index of the list of routes that was made last.
 ///
 /// Returns 0 and sets `route`. Fails with 1 past the end of the list, and 3 if the handle is closed. Then `route` is unchanged.
 #[unsafe(no_mangle)]

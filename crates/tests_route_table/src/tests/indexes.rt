@@ -11,17 +11,18 @@ use std::process::Abort;
 use std::str::FromStr;
 
 /// Routes that touch, nest and leave gaps. They lie at both ends of both families, of 2000::/3, and of a chunk of the index. Some share
-/// one block of 256 addresses, or one /64. One has the hop that stands for none elsewhere.
+/// one block of 256 addresses, or one /64. One has the hop that means none elsewhere. Two have the greatest hop that a cell
+/// can have itself, and the next one.
 const ROUTES: &str = "0.0.0.0/30 1, 0.0.64.0/18 2, 0.0.128.0/32 2, 10.0.0.0/8 4, 10.1.0.0/16 drop, \
      10.1.2.0/24 4294967295, 10.1.2.3/32 0, 20.0.1.0/24 16, 20.0.3.0/24 17, 20.0.5.128/25 18, \
-     255.255.255.254/31 5, 255.255.255.255/32 6, ::/128 7, 1fff:ff00::/24 12, 2000::/20 13, \
+     30.0.0.0/16 1073741822, 30.1.0.0/16 1073741823, 255.255.255.254/31 5, 255.255.255.255/32 6, ::/128 7, 1fff:ff00::/24 12, 2000::/20 13, \
      2001:db8::/32 8, 2001:db8:8000::/33 9, 2a00:1:0:0:4000::/66 19, 2a00:1:0:0:8000::/65 20, \
      2a00:20::/32 21, 2a0e::/29 22, 2a0f::/29 23, 2a0f:8::/48 23, 2a10::/48 24, \
      2a10:0:0:8000::/49 25, 3fff:f000::/20 14, 4000::/16 15, ffff:ffff:ffff:ffff:ffff:ffff:ffff:fffe/127 10, \
      ffff:ffff:ffff:ffff:ffff:ffff:ffff:ffff/128 11";
 
 /// Addresses, and their hops by these routes, worked out by hand.
-static HOPS: [(&str, Option<u32>); 59] = [
+static HOPS: [(&str, Option<u32>); 61] = [
     ("0.0.0.0", Some(1)),
     ("0.0.0.3", Some(1)),
     ("0.0.0.4", None),
@@ -44,6 +45,8 @@ static HOPS: [(&str, Option<u32>); 59] = [
     ("20.0.5.127", None),
     ("20.0.5.128", Some(18)),
     ("20.0.63.255", None),
+    ("30.0.0.0", Some(1073741822)),
+    ("30.1.255.255", Some(1073741823)),
     ("255.255.255.253", None),
     ("255.255.255.254", Some(5)),
     ("255.255.255.255", Some(6)),
@@ -88,8 +91,8 @@ pub(crate) fn address(rt: &impl Abort, text: &str) -> IpAddr {
 }
 
 /// The addresses of `HOPS`.
-fn addresses(rt: &impl Abort) -> [IpAddr; 59] {
-    let mut addrs = [address(rt, "::"); 59];
+fn addresses(rt: &impl Abort) -> [IpAddr; 61] {
+    let mut addrs = [address(rt, "::"); 61];
     for (place, (text, _)) in HOPS.iter().enumerate() {
         addrs[place] = address(rt, text);
     }
@@ -103,7 +106,7 @@ fn hop_is(rt: &impl Abort, index: &HopIndex, text: &str, hop: Option<u32>) {
 
 /// Checks the hop of each address, in a single look-up and in one look-up of all addresses.
 fn hops_are(rt: &impl Abort, index: &HopIndex) {
-    let mut hops = [None; 59];
+    let mut hops = [None; 61];
     index.hops(&addresses(rt), &mut hops);
     let mut left = hops.iter();
     for (text, hop) in &HOPS {
@@ -113,11 +116,11 @@ fn hops_are(rt: &impl Abort, index: &HopIndex) {
 }
 
 /// The numbers of addresses that are looked up together: none, one, and around the number that goes through the steps together.
-const COUNTS: [usize; 6] = [0, 1, 15, 16, 17, 100];
+const COUNTS: [usize; 6] = [0, 1, 31, 32, 33, 100];
 
 /// A row of `HOPS` for each place, so that families change often.
 fn row_at(place: usize) -> (&'static str, Option<u32>) {
-    HOPS[place % 59 * 30 % 59]
+    HOPS[place % 61 * 30 % 61]
 }
 
 /// Checks the hops at the first `count` places; the others are as they were.

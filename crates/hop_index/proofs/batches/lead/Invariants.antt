@@ -3,4 +3,4 @@ use Rattle.hop_index.specs.InnerNodes.{AllLead}
 use Rattle.hop_index.proofs.batches.lead.Given as goal
 
 abbrev pub invariant-loop : goal.invariant-loop
-invariant-loop g l = record { all : length l.places ≡ 32; leads : AllLead l.sides.v4 l.sides.v6 g.A.Addressed.address l.addrs l.entries }
+invariant-loop g l = record { all : length l.places ≡ length l.addrs; leads : AllLead l.sides.v4 l.sides.v6 g.A.Addressed.address l.addrs l.entries }

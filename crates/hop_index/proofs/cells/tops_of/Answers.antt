@@ -1,4 +1,4 @@
-use Rattle.std.proofs.Common.{rules, ℕ, ◌+◌, ◌<◌, ◌≤◌, get_or, arith}
+use Rattle.std.proofs.Common.{rules, ℕ, ◌+◌, ◌<◌, get_or, arith}
 use Rattle.std.proofs.lemmas.List.Elements.{All-push}
 use Rattle.std.proofs.lemmas.List.Quantifiers.{all_pairs_push}
 use Rattle.hop_index.proofs.cells.tops_of.Goals as goal
@@ -6,11 +6,12 @@ use Rattle.hop_index.proofs.cells.tops_of.Goals as goal
 pub loop-chunk-preserved : goal.loop-chunk-preserved
 loop-chunk-preserved g c =
     let i = c.loop-chunk.invariant in
-    let top : ℕ = c.loop-chunk.place + c.loop-chunk.chunk in
-    let more : c.loop-chunk.place ≤ c.after_chunk-place.result = c.after_chunk-place.ensures.least in
+    let more = c.cells_of-first.ensures in
+    let next = c.after_chunk-next.ensures in
     rw c.in_ok-push.ensures.items (record {
       all = search (rules);
-      within = c.after_chunk-place.ensures.most;
-      below = All-push (λ t. t < c.after_chunk-place.result + (c.loop-chunk.chunk + 1)) c.loop-chunk.tops.items top (λ k d l. let b : get_or c.loop-chunk.tops.items k d < top = i.below k d l in omega arith) (omega arith);
-      rising = all_pairs_push (λ (a b : ℕ). a < b) c.loop-chunk.tops.items top i.rising i.below;
+      within = next.most;
+      few = omega (arith, next.least, i.few, more.few);
+      below = All-push (λ t. t < c.loop-chunk.first + c.cells_of-first.result) c.loop-chunk.tops.items c.loop-chunk.first (λ k d l. let b : get_or c.loop-chunk.tops.items k d < c.loop-chunk.first = i.below k d l in omega arith) (omega (arith, more.some));
+      rising = all_pairs_push (λ (a b : ℕ). a < b) c.loop-chunk.tops.items c.loop-chunk.first i.rising i.below;
     })

@@ -4,7 +4,7 @@ use Rattle.hop_index.specs.InnerRanges.{ArePadded}
 use Rattle.hop_index.specs.InnerNodes.{AreNodes, IsBetween, Leads, StoredNode, cell_by}
 use Rattle.hop_index.proofs.Divisions.{cell_by_ascends, few_lead, leads_more, led_on}
 use Rattle.hop_index.proofs.nodes.Nodes.+entries.Goals as goal
-use Rattle.hop_index.proofs.nodes.Nodes.+entries.Goals.{then-next-place, else-next-place+then-levels-eq0+in_ok-entry, else-next-place+else-levels-eq0+in_ok-inside+in_ok-entry-2}
+use Rattle.hop_index.proofs.nodes.Nodes.+entries.Goals.{in-Some, in_default+then-next-place, in_default+else-next-place+then-levels-eq0+in_ok-entry, in_default+else-next-place+else-levels-eq0+in_ok-inside+in_ok-entry-2}
 
 pub returns-clause-entries : goal.returns-clause-entries
 returns-clause-entries g t c =
@@ -37,20 +37,22 @@ loop-cell-preserved g t c =
     let s = c.after_cell-next.ensures in
     let within : c.args.node.now.after ≤ length rs = rw i.ranges c.requires.after in
     let padded : ArePadded rs end = rw i.ranges c.requires.ranges in
-    let step : (c.if-next-place.self.ranges ≡ rs) × AreNodes rs end c.if-next-place.self.nodes.items c.if-next-place.self.cells.items
-    × ((x e : ℕ) → Leads old rs x e → Leads c.if-next-place.self.nodes.items rs x e) × ((x : ℕ) → x < end → IsBetween rs x place next → Leads c.if-next-place.self.nodes.items rs x c.if-next-place.entry) =
-    elim c.if-next-place.branch [
-      | then-next-place w ↦ rw (w.self-is, w.entry-is) (refl, i.nodes, (λ x e h. h), (λ x l b. few_lead old rs end x place next padded l (rw i.ranges c.requires.few) (omega (arith, w.if-next-place.true)) b))
-      | else-next-place+then-levels-eq0+in_ok-entry w ↦ let e = w.in_ok-entry.ensures in rw (w.self-is, w.entry-is) (e.ranges, rw e.ranges at e.nodes, e.kept, (λ x l b. e.leads x b))
-      | else-next-place+else-levels-eq0+in_ok-inside+in_ok-entry-2 w ↦
+    let cell : ℕ → ℕ = cell_by g.N.Key.width (option_copied c.args.tops) c.args.node.now in
+    let step : (c.match-hop_entry.self.ranges ≡ rs) × AreNodes rs end c.match-hop_entry.self.nodes.items c.match-hop_entry.self.cells.items
+    × ((x e : ℕ) → Leads old rs x e → Leads c.match-hop_entry.self.nodes.items rs x e) × ((x : ℕ) → x < end → cell x ≡ c.loop-cell.cell → IsBetween rs x place next → Leads c.match-hop_entry.self.nodes.items rs x c.match-hop_entry.entry) =
+    elim c.match-hop_entry.branch [
+      | in-Some w ↦ rw (w.self-is, w.entry-is) (refl, i.nodes, (λ x e h. h), (λ x l is b. (rw w.in-Some.is at c.hop_entry.ensures) old x l is b.below))
+      | in_default+then-next-place w ↦ rw (w.self-is, w.entry-is) (refl, i.nodes, (λ x e h. h), (λ x l is b. few_lead old rs end x place next padded l (rw i.ranges c.requires.few) (omega (arith, w.if-next-place.true)) b))
+      | in_default+else-next-place+then-levels-eq0+in_ok-entry w ↦ let e = w.in_ok-entry.ensures in rw (w.self-is, w.entry-is) (e.ranges, rw e.ranges at e.nodes, e.kept, (λ x l is b. e.leads x b))
+      | in_default+else-next-place+else-levels-eq0+in_ok-inside+in_ok-entry-2 w ↦
           let e = w.in_ok-inside.ensures in
           let f = w.in_ok-entry-2.ensures in
-          rw (w.self-is, w.entry-is) (f.ranges ∙ e.ranges, rw (f.ranges ∙ e.ranges) at f.nodes, (λ x v h. (rw e.ranges at f.kept) x v (e.kept x v h)), (λ x l b. (rw (e.ranges, w.over-inner.ensures.before, w.over-inner.ensures.after) at f.leads) x b))
+          rw (w.self-is, w.entry-is) (f.ranges ∙ e.ranges, rw (f.ranges ∙ e.ranges) at f.nodes, (λ x v h. (rw e.ranges at f.kept) x v (e.kept x v h)), (λ x l is b. (rw (e.ranges, w.over-inner.ensures.before, w.over-inner.ensures.after) at f.leads) x b))
     ] in
     rw (step.0, c.in_ok-push.ensures.items) (record {
       ranges = i.ranges;
       nodes = step.1;
       kept = λ x e h. step.2 x e (i.kept x e h);
-      led = led_on g.N.Key.width (option_copied c.args.tops) c.requires.tops c.args.node.now rs padded within old c.if-next-place.self.nodes.items c.loop-cell.cell place next c.if-next-place.entry c.loop-cell.entries.items
+      led = led_on g.N.Key.width (option_copied c.args.tops) c.requires.tops c.args.node.now rs padded within old c.match-hop_entry.self.nodes.items c.loop-cell.cell place next c.match-hop_entry.entry c.loop-cell.entries.items
           i.led s.least s.most s.inside s.beyond step.2 step.3;
     })
