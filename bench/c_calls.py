@@ -44,7 +44,7 @@ from the networks, or anywhere from the block."""
 MADE = """These indexes, each of a table of one family, are made in {made:.0f} ms together. That is {ratio:.3f} of the {lead:.2f} s in which
 `routes lead` loads the feed beside them, its output to a file."""
 
-TOGETHER = """{readers} threads look up addresses in one index at the same time on {cores} processors, 64 in a call, each by a handle of its own.
+TOGETHER = """{readers} threads look up addresses in one index at the same time on {cores}, 64 in a call, each by a handle of its own.
 By the clock they make {v4:.1f} times as many lookups as one thread for IPv4, and {v6:.1f} times as many for IPv6."""
 
 
@@ -88,10 +88,10 @@ def made(parts, lead):
     return MADE.format(made=1000 * seconds, ratio=seconds / lead, lead=lead)
 
 
-def together(parts):
-    """How many times as many lookups several readers make in a time, compared with one."""
+def together(parts, cores):
+    """How many times as many lookups several readers make in a time on so many processors, compared with one."""
     times = {family: READERS * least["routes", "reader", "even"] / least["routes", "readers", "even"] for family, (_, least) in parts.items()}
-    return TOGETHER.format(readers=READERS, cores=os.cpu_count(), **times)
+    return TOGETHER.format(readers=READERS, cores="one processor" if cores == 1 else f"{cores} processors", **times)
 
 
 def changes(parts):
@@ -171,7 +171,7 @@ def measured(bench):
         page.table(["addresses", "look-up", *SIDES.values()], look_ups(parts)),
         page.filled(RATIOS),
         page.table(["addresses", *(title for *_, title in WAYS)], ratios(parts)),
-        page.filled(together(parts)),
+        page.filled(together(parts, 1 if bench.pin else os.cpu_count())),
         page.filled(load.told(bench.runs)),
     ]
     with measure.Others() as load:
