@@ -1,16 +1,18 @@
 -- Plans behind other steps, made wider.
-use Rattle.std.proofs.Common.{◌≡◌, ℕ, zero, suc, ◌-◌, ◌≤◌, ◌<◌, Bool, true, false, List, [], ◌∷◌, length, take, drop, slice_index_or, None, refl, sym, subst, arith, append-nil, drop_of_length-le}
-use Rattle.std.proofs.lemmas.List.{take_all}
+use Rattle.std.proofs.Common.{◌≡◌, ℕ, zero, suc, ◌-◌, ◌≤◌, ◌<◌, ◌∙◌, Bool, true, false, not, List, [], ◌∷◌, length, take, drop, slice_index_or, refl, sym, ap, subst, arith, add-one, append-nil}
 use Rattle.ipnet_blocks.specs.BitStrings.{begins}
 use Rattle.least_table.specs.InnerPacked.{best_at, steps_in}
 use Rattle.least_table.specs.InnerPieces.{AllBegin, AllShare, beyond}
 use Rattle.least_table.specs.InnerPlanners.{Plans}
-use Rattle.least_table.specs.InnerPlans.{Plan, Leaf, Ends, OfHalf, top, tree_of}
-use Rattle.least_table.specs.InnerSteps.{Step, step_best}
+use Rattle.least_table.specs.InnerPlans.{Ends, OfHalf}
+use Rattle.least_table.specs.InnerSteps.{Step}
+use Rattle.least_table.specs.InnerTrees.{Tree, IsPlan, best}
 use Rattle.least_table.specs.Pieces.{hop_at}
-use Rattle.least_table.specs.Trees.{IsPlan}
+use Rattle.least_table.specs.Tables.{half_of}
 use Rattle.least_table.specs.declared.plan.Steps.{Steps}
-use Rattle.least_table.proofs.Builds.{halves_made}
+use Rattle.least_table.proofs.Builds.{plan_same}
+use Rattle.least_table.proofs.LeastPlans.{begins_other}
+use Rattle.least_table.proofs.Shares.{hop_inside, none_outside, share_bit}
 use Rattle.least_table.proofs.Tops.{read_top}
 
 -- ---- strings that begin with others
@@ -59,30 +61,29 @@ AllBegin-next d a b [] l e h = tt
 AllBegin-next d a b (p ∷ ps) l e h = (subst (λ c. begins (c ∷ []) (drop d p.0) ≡ true) e (begins_next d a p.0 l h.0), AllBegin-next d a b ps l e h.1)
 
 -- the last step of a plan is that of its block
-pub best_last : (xs : List Step) (p : Plan) (s : Steps) → Ends xs p s → best_at s (length (steps_in s) - 1) ≡ step_best (top p)
-best_last xs p s h = read_top p xs (steps_in s) [] (steps_in s) h.steps (sym (append-nil (steps_in s))) (length (steps_in s)) refl
+pub best_last : (xs : List Step) (p : Tree) (s : Steps) → Ends xs p s → (at : ℕ) → suc at ≡ length (steps_in s) → best_at s at ≡ best p
+best_last xs p s h at e = let i : at ≡ suc at - 1 = omega arith in ap (best_at s) i ∙ read_top p xs (steps_in s) [] (steps_in s) h.steps (sym (append-nil (steps_in s))) (suc at) e
 
 module _ (w : ℕ) where
   -- ---- the plan of a wider block, of whose halves one has no piece
 
-  no_piece : (d : ℕ) → IsPlan (w - d) (hop_at (beyond d [])) (tree_of (Leaf None))
-  no_piece d x l = refl
-
-  wider_plan : (d : ℕ) (upper : Bool) (ps : List (List Bool × ℕ)) (p r : Plan) → d < w → AllBegin upper (beyond d ps) → OfHalf upper None p r → IsPlan (w - suc d) (hop_at (beyond (suc d) ps)) (tree_of p) → IsPlan (w - d) (hop_at (beyond d ps)) (tree_of r)
-  wider_plan d true ps p r l begin of_half plan = halves_made w d 0 ps [] ps (Leaf None) p r l tt begin of_half refl refl (no_piece (suc d)) plan
-  wider_plan d false ps p r l begin of_half plan =
-      let all : ps ≡ take (length ps) ps = sym (take_all (length ps) ps (omega arith)) in
-      let none : [] ≡ drop (length ps) ps = sym (drop_of_length-le ps {i = length ps} (omega arith)) in
-      halves_made w d (length ps) ps ps [] p (Leaf None) r l (subst (λ qs. AllBegin false (beyond d qs)) all begin) (subst (λ qs. AllBegin true (beyond d qs)) none tt) of_half all none plan (no_piece (suc d))
+  wider_plan : (d : ℕ) (upper : Bool) (ps : List (List Bool × ℕ)) (p r : Tree) → d < w → AllBegin upper (beyond d ps) → OfHalf upper p r → IsPlan (w - suc d) (hop_at (beyond (suc d) ps)) p → IsPlan (w - d) (hop_at (beyond d ps)) r
+  wider_plan d upper ps p r l begin of_half plan =
+      let share = share_bit upper (beyond d ps) begin in
+      let more : suc (w - suc d) ≡ w - d = omega (arith, l) in
+      subst (λ v. IsPlan v (hop_at (beyond d ps)) r) more
+      (of_half (w - suc d) (hop_at (beyond d ps))
+      (plan_same (w - suc d) (half_of upper (hop_at (beyond d ps))) (hop_at (beyond (suc d) ps)) p (λ x. hop_inside (upper ∷ []) d ps share x ∙ ap (λ n. hop_at (beyond n ps) x) (add-one d)) plan)
+      (λ x e. none_outside (upper ∷ []) d ps share (not upper ∷ x) (begins_other upper [] x)))
 
   pub ascended : (a : List Bool) (to from : ℕ) (upper : Bool) (ps : List (List Bool × ℕ)) (xs : List Step) (old new : Steps) → length a ≤ w → from ≡ suc to → from ≤ length a → upper ≡ slice_index_or a to false
-      → (h : Plans w a from ps xs old) → (r : Plan) → OfHalf upper None h.plan r → Ends xs r new → Plans w a to ps xs new
+      → (h : Plans w a from ps xs old) → (r : Tree) → OfHalf upper h.plan r → Ends xs r new → Plans w a to ps xs new
   ascended a to from upper ps xs old new inside e l bit h r of_half ends = record {
     plan = r;
     ends = ends;
     is = record {
       plans = wider_plan to upper ps h.plan r (omega (arith, e, l, inside)) (AllBegin-next to a upper ps (omega (arith, e, l)) (sym bit) (subst (λ n. AllShare (take n a) ps) e h.is.inside)) of_half
-          (subst (λ n. IsPlan (w - n) (hop_at (beyond n ps)) (tree_of h.plan)) e h.is.plans);
+          (subst (λ n. IsPlan (w - n) (hop_at (beyond n ps)) h.plan) e h.is.plans);
       inside = AllShare-less to from a ps (omega (arith, e)) h.is.inside;
     };
   }

@@ -1,27 +1,62 @@
 -- What the steps of a plan store, as the routes of its tree.
-use Rattle.std.proofs.Common.{◌≡◌, ℕ, Bool, true, false, cond, List, [], ◌∷◌, ◌++◌, Option, refl, sym, ap, ap₂, ◌∙◌, append-nil}
-use Rattle.std.proofs.lemmas.Bool.{cond_both}
-use Rattle.least_table.specs.HopSets.{same_hop}
-use Rattle.least_table.specs.Trees.{inside, within}
+use Rattle.std.proofs.Common.{◌≡◌, ℕ, Bool, true, false, cond, not, ◌&&◌, List, [], ◌∷◌, ◌++◌, Option, Some, None, is_some, refl, sym, ap, ap₂, ◌∙◌, append_assoc, append-nil}
 use Rattle.least_table.specs.BestHops.{Of, passed_on}
-use Rattle.least_table.proofs.Sets.{one_holds, same_hop-true}
+use Rattle.least_table.specs.HopSets.{holds, first_of}
+use Rattle.least_table.specs.InnerTrees.{beside, dropped, with_best}
+use Rattle.least_table.specs.Tables.{inside, within}
 use Rattle.least_table.proofs.Stores.{within-halves, within_within}
 
--- ---- the routes of a block and of those in it
-
-pub leaf_stored : (c : Bool) (b : List Bool) (k : Option ℕ) → cond c [] ((b, k) ∷ []) ≡ within b (cond c [] (([], k) ∷ []))
-leaf_stored true b k = refl
-leaf_stored false b k = ap (λ x. (x, k) ∷ []) (sym (append-nil b))
+-- the own route of a block, and those of its parts
+own_stored : {K : Type 0} (c : Bool) (b : List Bool) (parts : Option ℕ → List (List Bool × K)) (s f : Option ℕ) (own : K) → cond c [] ((b, own) ∷ []) ++ within b (parts (cond c s f)) ≡ within b (cond c (parts s) (([], own) ∷ parts f))
+own_stored true b parts s f own = refl
+own_stored false b parts s f own = ap (λ x. (x, own) ∷ within b (parts f)) (sym (append-nil b))
 
 pub fork_stored : {K : Type 0} (c : Bool) (b : List Bool) (L H : Option ℕ → List (List Bool × K)) (s f : Option ℕ) (own : K)
     → cond c [] ((b, own) ∷ []) ++ (within (b ++ false ∷ []) (L (cond c s f)) ++ within (b ++ true ∷ []) (H (cond c s f))) ≡ within b (cond c (inside false (L s) ++ inside true (H s)) (([], own) ∷ inside false (L f) ++ inside true (H f)))
-fork_stored true b L H s f own = sym (within-halves b (L s) (H s))
-fork_stored false b L H s f own = ap₂ (λ x y. (x, own) ∷ y) (sym (append-nil b)) (sym (within-halves b (L f) (H f)))
+fork_stored c b L H s f own = ap (λ t. cond c [] ((b, own) ∷ []) ++ t) (sym (within-halves b (L (cond c s f)) (H (cond c s f)))) ∙ own_stored c b (λ i. inside false (L i) ++ inside true (H i)) s f own
 
-pub skip_stored : (c : Bool) (b ds : List Bool) (t : List (List Bool × Option ℕ)) (k : Option ℕ) → cond c [] ((b, k) ∷ []) ++ within (b ++ ds) t ≡ within b (cond c (within ds t) (([], k) ∷ within ds t))
-skip_stored true b ds t k = sym (within_within b ds t)
-skip_stored false b ds t k = ap₂ (λ x y. (x, k) ∷ y) (sym (append-nil b)) (sym (within_within b ds t))
+-- the routes that are added for a block: those of its parts, and then its own
+pub cut_stored : (b : List Bool) (hops : List (Option ℕ)) (parts : Option ℕ → List (List Bool × Option ℕ)) (s k : Option ℕ) (is_new : Bool) (old mid new : List (List Bool × Option ℕ)) → k ≡ passed_on (Of hops) s → is_new ≡ not (holds hops s)
+    → mid ≡ within b (parts k) ++ old → new ≡ cond is_new ((b, k) ∷ []) [] ++ mid → new ≡ within b (with_best hops parts s) ++ old
+cut_stored b hops parts s k is_new old mid new e f g h = h ∙ ap₂ (λ t u. t ++ u) own g ∙ sym (append_assoc route (within b (parts k)) old) ∙ ap (λ t. t ++ old) (ap (λ j. route ++ within b (parts j)) e ∙ own_stored (holds hops s) b parts s (first_of hops) (first_of hops))
+  where
+    route : List (List Bool × Option ℕ)
+    route = cond (holds hops s) [] ((b, first_of hops) ∷ [])
 
--- a set of one hop
-pub one_passed : (k s : Option ℕ) → passed_on (Of (k ∷ [])) s ≡ k
-one_passed k s = ap (λ c. cond c s k) (one_holds k s) ∙ cond_both (same_hop s k) s k (λ u. u ≡ k) (same_hop-true s k) (λ e. refl)
+    own_route : (c : Bool) → cond {A = List (List Bool × Option ℕ)} (not c) ((b, cond c s (first_of hops)) ∷ []) [] ≡ cond c [] ((b, first_of hops) ∷ [])
+    own_route true = refl
+    own_route false = refl
+
+    own : cond {A = List (List Bool × Option ℕ)} is_new ((b, k) ∷ []) [] ≡ route
+    own = ap₂ (λ n j. cond {A = List (List Bool × Option ℕ)} n ((b, j) ∷ []) []) f e ∙ own_route (holds hops s)
+
+-- a half without hops
+drop_stored : (b : List Bool) (k : Option ℕ) → cond {A = List (List Bool × Option ℕ)} (is_some k) ((b, None) ∷ []) [] ≡ within b (dropped k)
+drop_stored b None = refl
+drop_stored b (Some k) = ap (λ x. (x, None) ∷ []) (sym (append-nil b))
+
+no_drop : (c : Bool) → (c && false) ≡ false
+no_drop true = refl
+no_drop false = refl
+
+a_drop : (c : Bool) → (c && true) ≡ c
+a_drop true = refl
+a_drop false = refl
+
+-- the routes that are added for a smaller block, and before or after it that of the half beside it
+pub beside_stored : (b q1 q0 q : List Bool) (half : Bool) (ds : List Bool) (k : Option ℕ) (t r0 r1 r2 r3 : List (List Bool × Option ℕ)) → q1 ≡ b ++ true ∷ [] → q0 ≡ b ++ false ∷ [] → q ≡ b ++ (half ∷ ds)
+    → r1 ≡ cond (is_some k && not half) ((q1, None) ∷ []) [] ++ r0 → r2 ≡ within q t ++ r1 → r3 ≡ cond (is_some k && half) ((q0, None) ∷ []) [] ++ r2 → r3 ≡ within b (beside half k (within ds t)) ++ r0
+beside_stored b q1 q0 q half ds k t r0 r1 r2 r3 e1 e0 e upper inner lower = go half way upper lower
+  where
+    way : within q t ≡ within (b ++ half ∷ []) (within ds t)
+    way = ap (λ u. within u t) (e ∙ sym (append_assoc b (half ∷ []) ds)) ∙ sym (within_within (b ++ half ∷ []) ds t)
+
+    go : (c : Bool) → within q t ≡ within (b ++ c ∷ []) (within ds t) → r1 ≡ cond (is_some k && not c) ((q1, None) ∷ []) [] ++ r0 → r3 ≡ cond (is_some k && c) ((q0, None) ∷ []) [] ++ r2 → r3 ≡ within b (beside c k (within ds t)) ++ r0
+    go true f up low =
+        low ∙ ap₂ (λ x y. x ++ y) (ap₂ (λ c u. cond {A = List (List Bool × Option ℕ)} c ((u, None) ∷ []) []) (a_drop (is_some k)) e0 ∙ drop_stored (b ++ false ∷ []) k)
+        (inner ∙ ap₂ (λ x y. x ++ y) f (up ∙ ap (λ c. cond {A = List (List Bool × Option ℕ)} c ((q1, None) ∷ []) [] ++ r0) (no_drop (is_some k))))
+        ∙ sym (append_assoc (within (b ++ false ∷ []) (dropped k)) (within (b ++ true ∷ []) (within ds t)) r0) ∙ ap (λ x. x ++ r0) (sym (within-halves b (dropped k) (within ds t)))
+    go false f up low =
+        low ∙ ap (λ c. cond {A = List (List Bool × Option ℕ)} c ((q0, None) ∷ []) [] ++ r2) (no_drop (is_some k))
+        ∙ inner ∙ ap₂ (λ x y. x ++ y) f (up ∙ ap (λ x. x ++ r0) (ap₂ (λ c u. cond {A = List (List Bool × Option ℕ)} c ((u, None) ∷ []) []) (a_drop (is_some k)) e1 ∙ drop_stored (b ++ true ∷ []) k))
+        ∙ sym (append_assoc (within (b ++ false ∷ []) (within ds t)) (within (b ++ true ∷ []) (dropped k)) r0) ∙ ap (λ x. x ++ r0) (sym (within-halves b (within ds t) (dropped k)))

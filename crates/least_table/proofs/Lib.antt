@@ -6,7 +6,7 @@ pub mod Owns
 pub mod Merges
 pub mod Makes
 pub mod Stacks
-pub mod Chains
+pub mod LeastPlans
 pub mod Risings
 pub mod Stores
 pub mod Widths

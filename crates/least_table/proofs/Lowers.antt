@@ -7,16 +7,15 @@ use Rattle.least_table.specs.InnerPacked.{AreWhole, steps_in}
 use Rattle.least_table.specs.InnerPieces.{AllBegin, AllShare, IsAscending, before, beyond, shared}
 use Rattle.least_table.specs.InnerPlanners.{Plans, EndAt, HasPlanned, IsLower, AreLowers, ArePlanned, IsInside}
 use Rattle.least_table.specs.Pieces.{AreDisjoint, hop_at, strings}
-use Rattle.least_table.specs.InnerPlans.{Ends, EndsIn, Fits, IsHeld, IsPlanOf, OfHalves, Plan, Stores, steps_of, top, tree_of}
-use Rattle.least_table.specs.InnerPlans as plans
-use Rattle.least_table.specs.InnerSteps.{Step}
+use Rattle.least_table.specs.InnerPlans.{Ends, EndsIn, IsPlanOf, OfHalves, Stores}
+use Rattle.least_table.specs.InnerSteps.{Step, steps_of, top}
 use Rattle.least_table.specs.InnerSteps as steps
-use Rattle.least_table.specs.declared.plan.LowerPlan.{LowerPlan}
 use Rattle.least_table.specs.declared.plan.Steps.{Steps}
 use Rattle.least_table.specs.declared.planner.Lower.{Lower}
 use Rattle.least_table.specs.declared.planner.Planner.{Planner}
-use Rattle.least_table.specs.Trees.{IsPlan, routes_of, within}
-use Rattle.least_table.specs.Trees as trees
+use Rattle.least_table.specs.InnerTrees.{Tree, Fits, IsPlan, routes_of}
+use Rattle.least_table.specs.InnerTrees as trees
+use Rattle.least_table.specs.Tables.{within}
 use Rattle.least_table.proofs.Builds.{fits_plan, halves_made}
 use Rattle.least_table.proofs.Disjoint.{ascending_from}
 use Rattle.least_table.proofs.Gathers.{AllBegin-next, AllShare-less, begins_drop}
@@ -94,7 +93,7 @@ module _ (w : ℕ) where
   -- ---- a lower half is joined with the upper one
 
   pub joined : (a : List Bool) (o : Lower) (ps qs : List (List Bool × ℕ)) (xs : List Step) (mid new : Steps) (l : IsLower w a o ps xs) (h : Plans w a (o.depth + 1) qs xs mid) → o.depth < length a → length a ≤ w
-      → (r : Plan) → OfHalves l.plan h.plan r → Ends l.before r new → Plans w a o.depth (l.pieces ++ qs) l.before new
+      → (r : Tree) → OfHalves l.plan h.plan r → Ends l.before r new → Plans w a o.depth (l.pieces ++ qs) l.before new
   joined a o ps qs xs mid new l h inside fit r of_halves ends = record {
     plan = r;
     ends = ends;
@@ -102,7 +101,7 @@ module _ (w : ℕ) where
       plans = halves_made w o.depth (length l.pieces) (l.pieces ++ qs) l.pieces qs l.plan h.plan r (omega (arith, inside, fit))
           (subst (λ rs. AllBegin false (beyond o.depth rs)) (sym front) (AllBegin-behind o.depth a false l.pieces (omega (arith, inside)) l.is.inside))
           (subst (λ rs. AllBegin true (beyond o.depth rs)) (sym back) (AllBegin-next o.depth a true qs inside l.upper (subst (λ n. AllShare (take n a) qs) (add-one o.depth) h.is.inside)))
-          of_halves (sym front) (sym back) l.is.plans (subst (λ n. IsPlan (w - n) (hop_at (beyond n qs)) (tree_of h.plan)) (add-one o.depth) h.is.plans);
+          of_halves (sym front) (sym back) l.is.plans (subst (λ n. IsPlan (w - n) (hop_at (beyond n qs)) h.plan) (add-one o.depth) h.is.plans);
       inside = AllShare-append (take o.depth a) l.pieces qs (AllShare-front (take o.depth a) (false ∷ []) l.pieces l.is.inside) (AllShare-less o.depth (o.depth + 1) a qs (omega arith) h.is.inside);
     };
   }
@@ -136,7 +135,8 @@ module _ (w : ℕ) where
           others = h.1.others;
           before = h.1.before;
           all = h.1.all;
-          held = h.1.held;
+          steps = h.1.steps;
+          last = h.1.last;
           rising = h.1.rising;
           is = subst (λ u. IsPlanOf w (suc o.depth) (u ++ false ∷ []) h.1.pieces h.1.plan) t h.1.is;
           upper = sym (bit_agrees o.depth n a z (omega (arith, l, h.0)) e) ∙ h.1.upper;
@@ -153,13 +153,13 @@ module _ (w : ℕ) where
       lt_of_ne f = omega (arith, f, h.0)
 
   -- a plan has steps
-  pub some_step : (xs : List Step) (p : Plan) (s : Steps) → Ends xs p s → 0 < length (steps_in s)
+  pub some_step : (xs : List Step) (p : Tree) (s : Steps) → Ends xs p s → 0 < length (steps_in s)
   some_step xs p s h = omega (arith, ap length h.steps ∙ length-append xs (steps_of p), ap length (top_last p), length-append (below p) (top p ∷ []))
 
   -- the one that the last piece lies in, where the next one lies in the upper half
-  pub turned : (a z : List Bool) (n : ℕ) (held : LowerPlan) (os : List Lower) (ps : List (List Bool × ℕ)) (s t : Steps) → Parts a z n → (h : ArePlanned w a (n + 1) (n + 1) ps os s) → IsHeld held h.plans.plan h.before (steps_in t)
-      → AreLowers w (reverse (os ++ record { depth = n; planned = held } ∷ [])) z (length z) ps (steps_in t)
-  turned a z n held os ps s t p h i = subst (λ us. AreLowers w us z (length z) ps (steps_in t)) (sym (reverse-append os (record { depth = n; planned = held } ∷ []))) (
+  pub turned : (a z : List Bool) (n : ℕ) (os : List Lower) (ps : List (List Bool × ℕ)) (s t : Steps) (at : ℕ) → Parts a z n → (h : ArePlanned w a (n + 1) (n + 1) ps os s) → steps_in t ≡ h.before ++ steps_of h.plans.plan → suc at ≡ length (steps_in t)
+      → AreLowers w (reverse (os ++ record { depth = n; last = at } ∷ [])) z (length z) ps (steps_in t)
+  turned a z n os ps s t at p h i e = subst (λ us. AreLowers w us z (length z) ps (steps_in t)) (sym (reverse-append os (record { depth = n; last = at } ∷ []))) (
     p.other,
     record {
       plan = h.plans.plan;
@@ -167,7 +167,8 @@ module _ (w : ℕ) where
       others = h.others;
       before = h.before;
       all = h.all;
-      held = i;
+      steps = i;
+      last = e;
       rising = h.plans.ends.rising;
       is = subst (λ u. IsPlanOf w (suc n) u h.pieces h.plans.plan) p.next (subst (λ m. IsPlanOf w m (take m a) h.pieces h.plans.plan) (add-one n) h.plans.is);
       upper = p.high;
@@ -178,12 +179,12 @@ module _ (w : ℕ) where
   -- ---- a piece is added
 
   -- all addresses of its block have its hop
-  piece_plan : (z : List Bool) (hop : ℕ) → IsPlan (w - length z) (hop_at (beyond (length z) ((z, hop) ∷ []))) (trees.Leaf (Some hop))
+  piece_plan : (z : List Bool) (hop : ℕ) → IsPlan (w - length z) (hop_at (beyond (length z) ((z, hop) ∷ []))) (trees.Leaf hop)
   piece_plan z hop x l = rw (drop_of_length-le z {i = length z} (omega arith)) refl
 
-  pub piece_planned : (z : List Bool) (hop : ℕ) (xs : List Step) (new : Steps) → steps_in new ≡ xs ++ steps.Leaf (Some hop) ∷ [] → AreWhole new → Plans w z (length z) ((z, hop) ∷ []) xs new
+  pub piece_planned : (z : List Bool) (hop : ℕ) (xs : List Step) (new : Steps) → steps_in new ≡ xs ++ steps.Uncut hop ∷ [] → AreWhole new → Plans w z (length z) ((z, hop) ∷ []) xs new
   piece_planned z hop xs new e whole = record {
-    plan = plans.Leaf (Some hop);
+    plan = trees.Leaf hop;
     ends = record { steps = e; whole = whole; rising = (tt, tt) };
     is = record { plans = piece_plan z hop; inside = (take_begins (length z) z, tt) };
   }
@@ -205,8 +206,8 @@ module _ (w : ℕ) where
   -- ---- the plan of all addresses
 
   pub record IsWhole (ps : List (List Bool × ℕ)) (s : Steps) : Type 0 where
-    pub plan : Plan
-    pub plans : IsPlan w (hop_at ps) (tree_of plan)
+    pub plan : Tree
+    pub plans : IsPlan w (hop_at ps) plan
     pub ends : EndsIn w [] plan s
 
   pub whole_plan : (a : List Bool) (ps : List (List Bool × ℕ)) (os : List Lower) (s : Steps) → ArePlanned w a 0 0 ps os s → IsWhole ps s
@@ -217,18 +218,18 @@ module _ (w : ℕ) where
       go [] l =
           let all : h.pieces ≡ ps = sym (h.all ∙ ap (λ t. t ++ h.pieces) l.0) in
           let z : w - 0 ≡ w = omega arith in
-          let made = subst (λ qs. IsPlan (w - 0) (hop_at qs) (tree_of h.plans.plan)) (map-id h.pieces ∙ all) h.plans.is.plans in
+          let made = subst (λ qs. IsPlan (w - 0) (hop_at qs) h.plans.plan) (map-id h.pieces ∙ all) h.plans.is.plans in
           record {
             plan = h.plans.plan;
-            plans = subst (λ n. IsPlan n (hop_at ps) (tree_of h.plans.plan)) z made;
-            ends = record { steps = h.plans.ends.steps ∙ ap (λ t. t ++ steps_of h.plans.plan) l.1; whole = h.plans.ends.whole; room = subst (λ n. Fits n (tree_of h.plans.plan)) z (fits_plan (w - 0) (hop_at ps) (tree_of h.plans.plan) made) };
+            plans = subst (λ n. IsPlan n (hop_at ps) h.plans.plan) z made;
+            ends = record { steps = h.plans.ends.steps ∙ ap (λ t. t ++ steps_of h.plans.plan) l.1; whole = h.plans.ends.whole; room = subst (λ n. Fits n h.plans.plan) z (fits_plan (w - 0) (hop_at ps) h.plans.plan made) };
           }
 
 -- its routes are those that it stores, and no others
-pub whole_routes : {B : Type 0} (string : B → List Bool) (q : List Bool) (p : Plan) (old new : List (B × Option ℕ)) (before after : Steps) → q ≡ [] → old ≡ [] → Stores string q None [] p old new before after → strings string new ≡ routes_of (tree_of p) None
+pub whole_routes : {B : Type 0} (string : B → List Bool) (q : List Bool) (p : Tree) (old new : List (B × Option ℕ)) (before after : Steps) → q ≡ [] → old ≡ [] → Stores string q None [] p old new before after → strings string new ≡ routes_of p None
 whole_routes string q p old new before after e f h =
-    h.routes ∙ ap₂ (λ u t. within u (routes_of (tree_of p) None) ++ strings string t) e f ∙ append-nil (within [] (routes_of (tree_of p) None)) ∙ within-whole (routes_of (tree_of p) None)
+    h.routes ∙ ap₂ (λ u t. within u (routes_of p None) ++ strings string t) e f ∙ append-nil (within [] (routes_of p None)) ∙ within-whole (routes_of p None)
 
 -- a block without bits has them all free
-pub from_top : (w : ℕ) (q : List Bool) (xs : List Step) (p : Plan) (s : Steps) → q ≡ [] → EndsIn w xs p s → EndsIn (w - length q) xs p s
+pub from_top : (w : ℕ) (q : List Bool) (xs : List Step) (p : Tree) (s : Steps) → q ≡ [] → EndsIn w xs p s → EndsIn (w - length q) xs p s
 from_top w q xs p s e h = let n : w ≡ w - length q = omega (arith, ap length e) in subst (λ m. EndsIn m xs p s) n h

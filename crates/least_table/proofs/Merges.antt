@@ -1,10 +1,9 @@
 -- The operations of a block without a route, by the best inherited hops of its halves.
-use Rattle.std.proofs.Common.{◌≡◌, ℕ, suc, ◌+◌, ◌≤◌, Bool, true, false, cond, ◌&&◌, ◌||◌, List, Option, None, refl, sym, ap, ◌∙◌, subst, arith, inl, inr, add-one, ⊎_elim}
+use Rattle.std.proofs.Common.{◌≡◌, ℕ, suc, ◌+◌, ◌≤◌, Bool, true, false, cond, ◌&&◌, ◌||◌, List, Option, None, refl, sym, ap, ◌∙◌, subst, arith, inl, inr, ⊎_elim}
 use Rattle.std.proofs.lemmas.Bool.{cases_Bool}
 use Rattle.least_table.specs.HopSets.{extra_route}
 use Rattle.least_table.specs.BestHops.{Hops, Any, Of, wants, first, agree, AreMerged, AreBest}
 use Rattle.ipnet_blocks.specs.Halves.{IsLesser}
-use Rattle.least_table.specs.Laws.{SetsLaw}
 use Rattle.least_table.specs.Tables.{IsTable, half, half_of, own, passed}
 use Rattle.least_table.proofs.Halves.{from_lesser}
 use Rattle.least_table.proofs.Sets.{meets-true, meets-false, first_of-holds}
@@ -78,6 +77,3 @@ module _ (w : ℕ) (h : List Bool → Option ℕ) (t : List (List Bool × Option
     some = some;
     needs = λ s. from_lesser w h t table f g low.needs high.needs s (m + n + extra_route (agree a b) + extra_route (wants c s)) (subst (λ o. IsLesser f g o (m + n + extra_route (agree a b) + extra_route (wants c s))) (sym (ap (passed s) none)) (lesser s (wants c s) refl));
   }
-
-pub sets_law : SetsLaw
-sets_law w h t table none a b c m n low high merged = rw add-one (Best-fork w h t (rw (← add-one) table) none a b c m n low high merged)

@@ -6,12 +6,11 @@ use Rattle.std.proofs.lemmas.List.Kept.{AllPairs-cons}
 use Rattle.std.proofs.lemmas.Bool.{cond_both}
 use Rattle.ipnet_blocks.specs.BitStrings.{bits_cmp}
 use Rattle.trie_core.proofs.Strings.{bits_cmp-under}
-use Rattle.least_table.specs.HopSets.{holds, same_hop, first_of}
-use Rattle.least_table.specs.Trees.{Tree, Leaf, Fork, Skip, inside, within, routes_of}
-use Rattle.least_table.specs.InnerPlans.{Fits}
-use Rattle.least_table.specs.Tables.{own}
+use Rattle.least_table.specs.HopSets.{holds, first_of}
+use Rattle.least_table.specs.InnerTrees.{Tree, Leaf, Fork, Skip, beside, dropped, routes_of, with_best}
+use Rattle.least_table.specs.Tables.{inside, own, within}
 use Rattle.least_table.specs.Wholes.{with_own}
-use Rattle.least_table.proofs.Split.{joined, own-joined, own-within}
+use Rattle.least_table.proofs.Split.{joined, own-joined}
 use Rattle.least_table.specs.InnerOrders.{ComesBeforeAll, IsInOrder}
 
 -- routes of a block, as routes of the whole, keep their order
@@ -46,15 +45,25 @@ pub IsInOrder-with : (o : Option (Option ℕ)) (t : List (List Bool × Option �
 IsInOrder-with None t e h = h
 IsInOrder-with (Some k) t e h = (after_whole t e, h)
 
-pub IsInOrder-routes : (w : ℕ) (t : Tree) (s : Option ℕ) → Fits w t → IsInOrder (routes_of t s)
-IsInOrder-routes w (Leaf k) s g = cond_both (same_hop s k) [] (([], k) ∷ []) IsInOrder (λ e. tt) (λ e. (tt, tt))
-IsInOrder-routes w (Fork hops l r) s g =
-    let both : (k : Option ℕ) → IsInOrder (joined (routes_of l k) (routes_of r k)) = λ k. IsInOrder-joined (routes_of l k) (routes_of r k) (IsInOrder-routes g.0 l k g.2) (IsInOrder-routes g.0 r k g.3) in
-    cond_both (holds hops s) (joined (routes_of l s) (routes_of r s)) (([], first_of hops) ∷ joined (routes_of l (first_of hops)) (routes_of r (first_of hops))) IsInOrder (λ e. both s)
-    (λ e. IsInOrder-with (Some (first_of hops)) (joined (routes_of l (first_of hops)) (routes_of r (first_of hops))) (own-joined (routes_of l (first_of hops)) (routes_of r (first_of hops))) (both (first_of hops)))
-IsInOrder-routes w (Skip k ds t) s g =
-    let h = IsInOrder-within ds (routes_of t k) (IsInOrder-routes g.0 t k g.3) in
-    cond_both (same_hop s k) (within ds (routes_of t k)) (([], k) ∷ within ds (routes_of t k)) IsInOrder (λ e. h) (λ e. IsInOrder-with (Some k) (within ds (routes_of t k)) (own-within ds (routes_of t k) g.2) h)
+-- the routes of a block that is cut, by those that its parts have under each hop
+cut_in_order : (r : Option ℕ → List (List Bool × Option ℕ)) (hops : List (Option ℕ)) (s : Option ℕ) → ((k : Option ℕ) → IsInOrder (r k) × (own (r k) ≡ None)) → IsInOrder (with_best hops r s)
+cut_in_order r hops s h = cond_both (holds hops s) (r s) (([], first_of hops) ∷ r (first_of hops)) IsInOrder (λ e. (h s).0) (λ e. IsInOrder-with (Some (first_of hops)) (r (first_of hops)) (h (first_of hops)).1 (h (first_of hops)).0)
+
+joined_order : (l r : List (List Bool × Option ℕ)) → IsInOrder l → IsInOrder r → IsInOrder (joined l r) × (own (joined l r) ≡ None)
+joined_order l r h k = (IsInOrder-joined l r h k, own-joined l r)
+
+IsInOrder-dropped : (s : Option ℕ) → IsInOrder (dropped s)
+IsInOrder-dropped None = tt
+IsInOrder-dropped (Some k) = (tt, tt)
+
+beside_order : (b : Bool) (s : Option ℕ) (t : List (List Bool × Option ℕ)) → IsInOrder t → IsInOrder (beside b s t) × (own (beside b s t) ≡ None)
+beside_order true s t h = joined_order (dropped s) t (IsInOrder-dropped s) h
+beside_order false s t h = joined_order t (dropped s) h (IsInOrder-dropped s)
+
+pub IsInOrder-routes : (t : Tree) (s : Option ℕ) → IsInOrder (routes_of t s)
+IsInOrder-routes (Leaf k) s = cut_in_order (λ i. []) (Some k ∷ []) s (λ i. (tt, refl))
+IsInOrder-routes (Fork hops l r) s = cut_in_order (λ k. joined (routes_of l k) (routes_of r k)) hops s (λ k. joined_order (routes_of l k) (routes_of r k) (IsInOrder-routes l k) (IsInOrder-routes r k))
+IsInOrder-routes (Skip hops b ds t) s = cut_in_order (λ k. beside b k (within ds (routes_of t k))) hops s (λ k. beside_order b k (within ds (routes_of t k)) (IsInOrder-within ds (routes_of t k) (IsInOrder-routes t k)))
 
 all_after : (x : List Bool) (t : List (List Bool × Option ℕ)) → ComesBeforeAll x t → All (λ r. bits_cmp x r.0 ≡ Less) t
 all_after x [] h = All-nil (λ r. bits_cmp x r.0 ≡ Less)

@@ -1,46 +1,28 @@
 -- Steps that are kept stay what they are while others are appended.
-use Rattle.std.proofs.Common.{◌≡◌, ℕ, zero, suc, ◌<◌, true, false, List, [], ◌∷◌, ◌++◌, drop, length, map, slice_index_or, Option, None, refl, sym, ap, ap₂, ◌∙◌, subst, arith}
+use Rattle.std.proofs.Common.{◌≡◌, ℕ, zero, suc, ◌<◌, List, [], ◌∷◌, ◌++◌, length, map, slice_index_or, Option, refl, sym, ap, ap₂, ◌∙◌, subst, arith}
 use Rattle.std.proofs.lemmas.List.{map-append, length-map, get_or-map}
-use Rattle.least_table.specs.HopSets.{first_of}
-use Rattle.least_table.specs.InnerHops.{second_of}
-use Rattle.least_table.specs.InnerSteps.{Step, step_best}
-use Rattle.least_table.specs.InnerSteps as steps
+use Rattle.ipnet_blocks.specs.Blocks.{digits}
+use Rattle.least_table.specs.InnerSteps.{Step, Cut, step_best}
 use Rattle.least_table.specs.InnerSets.{KeepsSets}
 use Rattle.least_table.specs.InnerPacked.{step_of, IsKept, AreKept, AreWhole, best_at, steps_in, Grows}
 use Rattle.least_table.specs.declared.plan.Packed.{Packed}
-use Rattle.least_table.specs.declared.plan.Packed.TheVariants.{Leaf, Rising, Falling, This, NoHop, ThisOrNoHop, Set, LowerThisOrNoHop, LowerSet, UpperThisOrNoHop, UpperSet, Skip, Around}
+use Rattle.least_table.specs.declared.plan.Packed.TheVariants.{Leaf, Hop, NoHop, HopOrNone, Set}
 use Rattle.least_table.specs.declared.plan.Steps.{Steps}
 
 module _ (sets new : List (List (Option ℕ))) (keeps : KeepsSets sets new) where
   step_front : (x : Packed) → IsKept sets x → step_of new x ≡ step_of sets x
   step_front (Leaf k) h = refl
-  step_front (Rising at) h = ap (λ ks. steps.Pair (first_of ks) (second_of ks) ks) (keeps at h).1
-  step_front (Falling at) h = ap (λ ks. steps.Pair (second_of ks) (first_of ks) ks) (keeps at h).1
-  step_front (This k) h = refl
-  step_front NoHop h = refl
-  step_front (ThisOrNoHop k) h = refl
-  step_front (Set at) h = ap (λ ks. steps.Fork ks) (keeps at h).1
-  step_front (LowerThisOrNoHop k) h = refl
-  step_front (LowerSet at) h = ap (λ ks. steps.Half false (first_of ks) (drop 1 ks)) (keeps at h).1
-  step_front (UpperThisOrNoHop k) h = refl
-  step_front (UpperSet at) h = ap (λ ks. steps.Half true (first_of ks) (drop 1 ks)) (keeps at h).1
-  step_front (Skip n x) h = refl
-  step_front (Around n x k) h = refl
+  step_front (Hop n x k) h = refl
+  step_front (NoHop n x) h = refl
+  step_front (HopOrNone n x k) h = refl
+  step_front (Set n x at) h = ap (λ ks. Cut (digits n x) ks) (keeps at h.2).1
 
   kept_front : (x : Packed) → IsKept sets x → IsKept new x
   kept_front (Leaf k) h = tt
-  kept_front (Rising at) h = (keeps at h).0
-  kept_front (Falling at) h = (keeps at h).0
-  kept_front (This k) h = tt
-  kept_front NoHop h = tt
-  kept_front (ThisOrNoHop k) h = tt
-  kept_front (Set at) h = (keeps at h).0
-  kept_front (LowerThisOrNoHop k) h = tt
-  kept_front (LowerSet at) h = (keeps at h).0
-  kept_front (UpperThisOrNoHop k) h = tt
-  kept_front (UpperSet at) h = (keeps at h).0
-  kept_front (Skip n x) h = h
-  kept_front (Around n x k) h = h
+  kept_front (Hop n x k) h = h
+  kept_front (NoHop n x) h = h
+  kept_front (HopOrNone n x k) h = h
+  kept_front (Set n x at) h = (h.0, h.1, (keeps at h.2).0)
 
   steps_front : (xs : List Packed) → AreKept sets xs → map (step_of new) xs ≡ map (step_of sets) xs
   steps_front [] h = refl
@@ -91,4 +73,4 @@ module _ (s : Steps) (at : ℕ) (x : Packed) (within : at < length (steps_in s))
   kept_read h = subst (λ y. IsKept s.sets y) (sym e) (kept_at s.sets s.steps at x inside h)
 
   pub best_read : (hops : List (Option ℕ)) → hops ≡ step_best (step_of s.sets x) → hops ≡ best_at s at
-  best_read hops f = f ∙ ap (λ y. step_best (step_of s.sets y)) e ∙ ap step_best (sym (get_or-map (step_of s.sets) s.steps at x (steps.Leaf None) inside))
+  best_read hops f = f ∙ ap (λ y. step_best (step_of s.sets y)) e ∙ ap step_best (sym (get_or-map (step_of s.sets) s.steps at x (Cut [] []) inside))

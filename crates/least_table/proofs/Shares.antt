@@ -40,7 +40,7 @@ hop_right (([], n) ∷ ps) qs x h = let e = h.0 in cc
 hop_right ((true ∷ s, n) ∷ ps) qs x h = let e = h.0 in cc
 hop_right ((false ∷ s, n) ∷ ps) qs x h = hop_right ps qs x h.1
 
-share_bit : (b : Bool) (ps : List (List Bool × ℕ)) → AllBegin b ps → AllShare (b ∷ []) ps
+pub share_bit : (b : Bool) (ps : List (List Bool × ℕ)) → AllBegin b ps → AllShare (b ∷ []) ps
 share_bit b [] h = tt
 share_bit b (p ∷ ps) h = (h.0, share_bit b ps h.1)
 

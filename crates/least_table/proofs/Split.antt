@@ -2,8 +2,7 @@
 use Rattle.std.proofs.Common.{◌≡◌, ℕ, suc, ◌<◌, Bool, true, false, cond, List, [], ◌∷◌, ◌++◌, length, nat_lt, Option, Some, None, refl, ap, ◌∙◌, arith, inl, inr, map}
 use Rattle.std.proofs.lemmas.Bool.{ltb-true, ltb-false, lt-ltb, le-ltb, cases_Bool}
 use Rattle.ipnet_blocks.specs.BitStrings.{begins}
-use Rattle.least_table.specs.Tables.{Absent, IsTable, half, longer, longest, hop_of, hop_under, own, passed}
-use Rattle.least_table.specs.Trees.{inside, within}
+use Rattle.least_table.specs.Tables.{Absent, IsTable, half, inside, longer, longest, hop_of, hop_under, own, passed, within}
 
 abbrev pub lifted : Bool → Option (Option ℕ) → Option (List Bool × Option ℕ) → Option (List Bool × Option ℕ)
 lifted b o (Some r) = Some (b ∷ r.0, r.1)

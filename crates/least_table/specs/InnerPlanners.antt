@@ -1,9 +1,10 @@
 -- The steps of a planner: plans of lower halves, and after them the plan of the block of the last piece.
 use Rattle.std.specs.Prelude.{◌≡◌, ℕ, suc, ◌<◌, ◌≤◌, Bool, true, false, List, [], ◌∷◌, ◌++◌, length, take, reverse, slice_index_or, MatchOption, ⊤}
 use Rattle.least_table.specs.InnerPacked.{AreWhole, steps_in}
-use Rattle.least_table.specs.InnerPlans.{Plan, Ends, IsHeld, IsPlanOf, top}
+use Rattle.least_table.specs.InnerPlans.{Ends, IsPlanOf}
 use Rattle.least_table.specs.InnerRising.{IsRising}
-use Rattle.least_table.specs.InnerSteps.{Step, step_best}
+use Rattle.least_table.specs.InnerSteps.{Step, steps_of}
+use Rattle.least_table.specs.InnerTrees.{Tree, best}
 use Rattle.least_table.specs.declared.plan.Steps.{Steps}
 use Rattle.least_table.specs.declared.planner.Lower.{Lower}
 use Rattle.least_table.specs.declared.planner.Planner.{Planner}
@@ -11,19 +12,20 @@ use Rattle.least_table.specs.declared.planner.Planner.{Planner}
 module _ (w : ℕ) where
   -- after the steps xs come those of a plan for these pieces, of the block of the first d bits of a
   pub record Plans (a : List Bool) (d : ℕ) (ps : List (List Bool × ℕ)) (xs : List Step) (s : Steps) : Type 0 where
-    pub plan : Plan
+    pub plan : Tree
     pub ends : Ends xs plan s
     pub is : IsPlanOf w d (take d a) ps plan
 
-  -- the last steps, unless they are held elsewhere, are a plan of a lower half; the upper half beside it contains the block a
+  -- the last steps are a plan of a lower half; the upper half beside it contains the block a
   pub record IsLower (a : List Bool) (o : Lower) (ps : List (List Bool × ℕ)) (xs : List Step) : Type 0 where
-    pub plan : Plan
+    pub plan : Tree
     pub pieces : List (List Bool × ℕ)
     pub others : List (List Bool × ℕ)
     pub before : List Step
     pub all : ps ≡ others ++ pieces
-    pub held : IsHeld o.planned plan before xs
-    pub rising : IsRising (step_best (top plan))
+    pub steps : xs ≡ before ++ steps_of plan
+    pub last : suc o.last ≡ length xs
+    pub rising : IsRising (best plan)
     pub is : IsPlanOf w (suc o.depth) (take o.depth a ++ false ∷ []) pieces plan
     pub upper : slice_index_or a o.depth false ≡ true
 

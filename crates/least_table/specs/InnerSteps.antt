@@ -1,23 +1,38 @@
 -- The steps of a plan.
-use Rattle.std.specs.Prelude.{◌≡◌, ℕ, ◌<◌, ◌^◌, Bool, List, [], ◌∷◌, Option, All, IfSome, IsTrue}
+use Rattle.std.specs.Prelude.{◌≡◌, ℕ, ◌<◌, ◌^◌, Bool, List, [], ◌∷◌, ◌++◌, Option, Some, None, All, IfSome, IsTrue}
+use Rattle.least_table.specs.InnerTrees.{Tree, Leaf, Fork, Skip}
 
--- A block whose addresses all have one hop. A block whose halves have one hop each, and its best inherited hops. A block cut into halves,
--- the lower first, and its best inherited hops. A block of which one half is cut further, the upper one if the test is true, while the
--- other half has one hop. A block of which all addresses outside a smaller block, on the path of these bits, have one hop.
+-- A block whose addresses all have one hop. A block that is cut, and its best inherited hops: into halves if the path is empty, else into
+-- the smaller block on the path and the addresses outside it, which have no hop.
 pub data Step : Type 0 where
-  Leaf : Option ℕ → Step
-  Pair : Option ℕ → Option ℕ → List (Option ℕ) → Step
-  Fork : List (Option ℕ) → Step
-  Half : Bool → Option ℕ → List (Option ℕ) → Step
-  Skip : Option ℕ → List Bool → Step
+  Uncut : ℕ → Step
+  Cut : List Bool → List (Option ℕ) → Step
 
 -- the best inherited hops of the block
 abbrev pub step_best : Step → List (Option ℕ)
-step_best (Leaf k) = k ∷ []
-step_best (Pair j k hops) = hops
-step_best (Fork hops) = hops
-step_best (Half upper k hops) = hops
-step_best (Skip k ds) = k ∷ []
+step_best (Uncut k) = Some k ∷ []
+step_best (Cut ds hops) = hops
+
+-- the path to the smaller block, if the block is cut
+abbrev pub path_in : Step → Option (List Bool)
+path_in (Uncut k) = None
+path_in (Cut ds hops) = Some ds
+
+-- the step of the block itself
+abbrev pub top : Tree → Step
+top (Leaf k) = Uncut k
+top (Fork hops l r) = Cut [] hops
+top (Skip hops b ds t) = Cut (b ∷ ds) hops
+
+-- all steps: those of the lower half or the smaller block, those of the upper half, then that of the block
+abbrev pub steps_of : Tree → List Step
+steps_of (Leaf k) = Uncut k ∷ []
+steps_of (Fork hops l r) = (steps_of l ++ steps_of r) ++ Cut [] hops ∷ []
+steps_of (Skip hops b ds t) = steps_of t ++ Cut (b ∷ ds) hops ∷ []
+
+-- x cuts a block into a smaller one; from the parent of this block, of which it is the upper half if the test is true, the path is `turns`
+abbrev pub IsLonger : Bool → Step → List Bool → Type 0
+IsLonger upper x turns = (b : Bool) × (ds : List Bool) × (hops : List (Option ℕ)) × (x ≡ Cut (b ∷ ds) hops) × (turns ≡ upper ∷ b ∷ ds)
 
 -- each network has zeros after its bits, and its hop is a number of 32 bits or none
 abbrev pub AreNetworks : {B : Type 0} → (B → Bool) → (List Bool → B) → (B → List Bool) → List (B × Option ℕ) → Type 0

@@ -1,11 +1,8 @@
 -- The theorems about the fewest operations of a block, its best inherited hops, and least tables, as statements.
 use Rattle.std.specs.Prelude.{◌≡◌, ◌≢◌, ℕ, ◌+◌, Bool, true, false, List, [], length, Option, Some, None, ◌≤◌, ◌↔◌, ◌⊎◌}
 use Rattle.ipnet_blocks.specs.Halves.{IsLesser}
-use Rattle.least_table.specs.BestHops.{Hops, Of, AreBest, AreMerged, agree}
-use Rattle.least_table.specs.HopSets.{extra_route}
 use Rattle.least_table.specs.Nearest.{IsFewest, IsNearest, distance}
 use Rattle.least_table.specs.Tables.{IsLeast, IsTable, half, half_of, own, passed}
-use Rattle.least_table.specs.Trees.{Tree, IsPlan, OneOutside, inner_of, routes_of, chain_hops, chain_extra_route}
 use Rattle.least_table.specs.Wholes.{bare}
 
 -- A block of one address needs no operation if its new hop is that of its installed route, or the inherited hop if it has no route.
@@ -32,21 +29,6 @@ abbrev pub OwnLaw : Type 0
 OwnLaw = (w : ℕ) (h : List Bool → Option ℕ) (t : List (List Bool × Option ℕ)) → IsTable w t → (k : Option ℕ) → own t ≡ Some k →
     (s : Option ℕ) (n : ℕ) → IsFewest w h (bare t) k n → IsFewest w h t s n
 
--- the best inherited hops of a block without a route are those of both halves if there are any; else those of either half, and the block
--- needs one operation more
-abbrev pub SetsLaw : Type 0
-SetsLaw = (w : ℕ) (h : List Bool → Option ℕ) (t : List (List Bool × Option ℕ)) → IsTable (w + 1) t → own t ≡ None → (a b c : Hops) (m n : ℕ) →
-    AreBest w (half_of false h) (half t false) a m → AreBest w (half_of true h) (half t true) b n → AreMerged a b c → AreBest (w + 1) h t c (m + n + extra_route (agree a b))
-
--- if no route is installed: several levels whose other halves all have the hop k, in one step
-abbrev pub ChainLaw : Type 0
-ChainLaw = (ds : List Bool) (v : ℕ) (h : List Bool → Option ℕ) (k : Option ℕ) (hops : List (Option ℕ)) (m : ℕ) →
-    AreBest v (inner_of ds h) [] (Of hops) m → OneOutside (length ds + v) h ds k → AreBest (length ds + v) h [] (Of (chain_hops k hops ds)) (m + chain_extra_route k hops ds)
-
 -- the distance of a table from the empty one is the number of its routes, so a least table is one that is nearest to the empty table
 abbrev pub EmptyLaw : Type 0
 EmptyLaw = (w : ℕ) (h : List Bool → Option ℕ) (u : List (List Bool × Option ℕ)) → (distance [] u ≡ length u) × (IsLeast w h u ↔ IsNearest w h None [] u)
-
--- the routes of a plan are a least table
-abbrev pub TreesLaw : Type 0
-TreesLaw = (w : ℕ) (h : List Bool → Option ℕ) (t : Tree) → IsPlan w h t → IsLeast w h (routes_of t None)

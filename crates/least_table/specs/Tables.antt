@@ -1,5 +1,5 @@
 -- Tables of routes over bit strings, the hop of an address, and least tables.
-use Rattle.std.specs.Prelude.{◌≡◌, ◌≢◌, ℕ, ◌≤◌, Bool, true, false, cond, List, [], ◌∷◌, length, nat_lt, Option, Some, None, ⊤}
+use Rattle.std.specs.Prelude.{◌≡◌, ◌≢◌, ℕ, ◌≤◌, Bool, true, false, cond, List, [], ◌∷◌, ◌++◌, length, map, nat_lt, Option, Some, None, ⊤}
 use Rattle.ipnet_blocks.specs.BitStrings.{begins}
 
 -- no route of t is at the block b
@@ -63,6 +63,18 @@ abbrev pub own : List (List Bool × Option ℕ) → Option (Option ℕ)
 own [] = None
 own (([], k) ∷ t) = Some k
 own ((b ∷ c, k) ∷ t) = own t
+
+-- the hops of the smaller block on this path
+abbrev pub inner_of : List Bool → (List Bool → Option ℕ) → List Bool → Option ℕ
+inner_of ds h x = h (ds ++ x)
+
+-- the routes of a half, as routes of the block
+abbrev pub inside : {K : Type 0} → Bool → List (List Bool × K) → List (List Bool × K)
+inside b t = map (λ r. (b ∷ r.0, r.1)) t
+
+-- the routes of a block, as routes of the whole
+abbrev pub within : {K : Type 0} → List Bool → List (List Bool × K) → List (List Bool × K)
+within b t = map (λ r. (b ++ r.0, r.1)) t
 
 -- what the halves inherit: the hop of the block's own route, or s if it has none
 abbrev pub passed : Option ℕ → Option (Option ℕ) → Option ℕ

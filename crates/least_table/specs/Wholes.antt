@@ -1,6 +1,6 @@
 -- A table by the route of the whole block and the tables of the halves.
 use Rattle.std.specs.Prelude.{ℕ, Bool, true, false, List, [], ◌∷◌, ◌++◌, Option, Some, None}
-use Rattle.least_table.specs.Trees.{inside}
+use Rattle.least_table.specs.Tables.{inside}
 
 -- the routes without that of the whole block
 abbrev pub bare : List (List Bool × Option ℕ) → List (List Bool × Option ℕ)

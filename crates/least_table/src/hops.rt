@@ -1,8 +1,8 @@
 //! Sets of hops, as ascending lists: no hop first, and then numbers.
-ghost use Rattle.std.specs.Prelude.{◌≡◌, ◌∷◌, [], drop, IfOk};
+ghost use Rattle.std.specs.Prelude.{◌≡◌, ◌∷◌, [], IfOk};
 ghost use Rattle.least_table.specs.BestHops.{Of, AreMerged};
 ghost use Rattle.least_table.specs.HopSets.{same_hop, holds, first_of};
-ghost use Rattle.least_table.specs.InnerHops.{members, second_of};
+ghost use Rattle.least_table.specs.InnerHops.{members};
 ghost use Rattle.least_table.specs.InnerRising.{is_less, IsRising, AreCommon, AreAll};
 
 use std::alloc::{AllocError, Global};
@@ -61,26 +61,6 @@ pub fn first(hops: &[Option<u32>]) -> Option<u32>
     match hops {
         [hop, ..] => *hop,
         [] => None,
-    }
-}
-
-/// The second of the hops, or none if there are fewer than two.
-pub(crate) fn second(hops: &[Option<u32>]) -> Option<u32>
-    ensures { result ≡ second_of hops.now }
-{
-    match hops {
-        [_, hop, ..] => *hop,
-        _ => None,
-    }
-}
-
-/// The hops without the first.
-pub(crate) fn others(hops: &[Option<u32>]) -> &[Option<u32>]
-    ensures { result.now ≡ drop 1 hops.now }
-{
-    match hops {
-        [_, others @ ..] => others,
-        [] => hops,
     }
 }
 

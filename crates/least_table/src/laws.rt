@@ -1,5 +1,5 @@
 //! Theorems about the fewest operations and routes: public functions without a body, whose contracts are the theorems.
-ghost use Rattle.least_table.specs.Laws.{HostLaw, HalvesLaw, TwoValuesLaw, OwnLaw, SetsLaw, ChainLaw, EmptyLaw, TreesLaw};
+ghost use Rattle.least_table.specs.Laws.{HostLaw, HalvesLaw, TwoValuesLaw, OwnLaw, EmptyLaw};
 
 /// A block of one address needs no operation if it has its new hop by its own installed route, or inherits it and has no route. Else
 /// it needs one. Any other block needs the lesser of two sums over its halves. For the first, they inherit the hop of the block's
@@ -16,19 +16,7 @@ pub fn two_values()
     ensures own { OwnLaw }
 {}
 
-/// The best inherited hops of a block without an installed route follow from those of its halves. If no route is installed and all
-/// addresses outside a smaller block have one hop, they follow from those of the smaller block.
-pub fn best_hops()
-    ensures halves { SetsLaw }
-    ensures chain { ChainLaw }
-{}
-
 /// A least table is one that is nearest to the empty table: each of its routes is one operation.
 pub fn empty()
     ensures { EmptyLaw }
-{}
-
-/// The routes of a plan are a least table.
-pub fn plans()
-    ensures { TreesLaw }
 {}

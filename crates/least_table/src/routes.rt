@@ -1,11 +1,9 @@
 //! The routes of a least table.
 ghost use Rattle.std.specs.Prelude.{◌≡◌, ◌≤◌, ◌++◌, ◌∷◌, [], cond, length, OnOk};
 ghost use Rattle.std.specs.Iterator.{YieldsFirst};
-ghost use Rattle.least_table.specs.HopSets.{same_hop};
 ghost use Rattle.least_table.specs.InnerSteps.{AreNetworks};
 ghost use Rattle.least_table.specs.Pieces.{strings};
 
-use crate::hops::is_same;
 use crate::stack::Stack;
 use prefix_trie::{Prefix, prefix_of};
 use std::alloc::{AllocError, Global};
@@ -72,22 +70,5 @@ impl<P: Prefix + Copy> Routes<P> {
             self.add(path, hop)?;
         }
         Ok(())
-    }
-
-    /// Adds a route of the block at `path` before the others, if its hop differs from the inherited one.
-    pub(crate) fn add_other(
-        &mut self,
-        path: &Path,
-        hop: Option<u32>,
-        inherited: Option<u32>,
-    ) -> Result<(), AllocError>
-        requires { length path.now ≤ P.R.width }
-        ensures routes { OnOk result (strings P.bits self.new ≡ cond (same_hop inherited hop) [] ((path.now, hop) ∷ []) ++ strings P.bits self.old) }
-        ensures networks { OnOk result (AreNetworks P.fits P.of_bits P.bits self.old → AreNetworks P.fits P.of_bits P.bits self.new) }
-    {
-        if is_same(inherited, hop) {
-            return Ok(());
-        }
-        self.add(path, hop)
     }
 }

@@ -8,8 +8,7 @@ use Rattle.least_table.specs.InnerOrders.{IsInOrder}
 use Rattle.nearest_table.specs.InnerPlans.{Fits, Plans, tree_of}
 use Rattle.least_table.specs.Nearest.{IsNearest, missing, surplus}
 use Rattle.nearest_table.specs.Plans.{Tree, Stay, Fork, Held, IsPlan, edits_of, new_table}
-use Rattle.least_table.specs.Trees.{inside, within, inner_of}
-use Rattle.least_table.specs.Tables.{IsTable, half, half_of, hop_of, hop_under, own, passed}
+use Rattle.least_table.specs.Tables.{IsTable, half, half_of, hop_of, hop_under, own, passed, inside, within, inner_of}
 use Rattle.least_table.specs.Wholes.{bare, whole}
 use Rattle.nearest_table.specs.Blocks.{inherited, inner, put, around, innermost}
 use Rattle.nearest_table.specs.Told.{new_hop, told_hop}
@@ -17,7 +16,6 @@ use Rattle.nearest_table.specs.declared.plans.Plan.{Plan}
 use Rattle.least_table.proofs.Stores.{within-whole, within_within}
 use Rattle.least_table.proofs.Split.{hop-half, joined, own-joined, IsTable-half}
 use Rattle.nearest_table.proofs.Builds.{passed_told}
-use Rattle.least_table.proofs.Halves.{own-whole}
 use Rattle.least_table.proofs.Makes.{distance-self}
 use Rattle.nearest_table.proofs.Locals.{local_law}
 use Rattle.least_table.proofs.Owns.{own-bare, half-bare}

@@ -2,7 +2,7 @@
 use Rattle.std.proofs.Common.{◌≡◌, ℕ, Bool, true, false, List, [], ◌∷◌, ◌++◌, Option, Some, ap, ap₂, ◌∙◌, append_assoc, Result, Ok, Err, OnOk}
 use Rattle.least_table.specs.BestHops.{Hops, first, passed_on, wants}
 use Rattle.nearest_table.specs.Plans.{Tree, Fork, edits_of}
-use Rattle.least_table.specs.Trees.{within}
+use Rattle.least_table.specs.Tables.{within}
 use Rattle.nearest_table.specs.Settled.{settled}
 use Rattle.least_table.proofs.GrownStores.{fork_stored}
 

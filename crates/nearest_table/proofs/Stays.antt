@@ -1,5 +1,5 @@
 -- Plans of blocks by those of their halves.
-use Rattle.std.proofs.Common.{◌≡◌, ℕ, suc, Bool, true, false, List, [], ◌∷◌, length, IfSome, Option, Some, None, refl, sym, ap, ◌∙◌, subst, arith}
+use Rattle.std.proofs.Common.{◌≡◌, ℕ, suc, Bool, true, false, List, [], ◌∷◌, length, Option, None, refl, sym, ap, ◌∙◌, subst, arith}
 use Rattle.least_table.specs.BestHops.{Any, Of, AreMerged}
 use Rattle.nearest_table.specs.InnerPlans.{IsFork, IsJoined, OfHalves, tree_of}
 use Rattle.nearest_table.specs.Plans.{Stay, best, IsPlan}
@@ -84,7 +84,3 @@ fork_halves low high (Fork' hops u l q r) is = (
   )),
   is.3,
 )
-
-pub if_some_map : {X : Type 0} {P Q : X → Type 0} (o : Option X) → ((x : X) → P x → Q x) → IfSome o P → IfSome o Q
-if_some_map None f p = p
-if_some_map (Some x) f p = f x p

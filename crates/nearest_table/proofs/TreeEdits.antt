@@ -8,8 +8,7 @@ use Rattle.least_table.specs.BestHops.{Hops, Any, Of, wants, first}
 use Rattle.nearest_table.specs.Laws.{EditsLaw}
 use Rattle.least_table.specs.Nearest.{has, missing, stores, surplus}
 use Rattle.nearest_table.specs.Plans.{Tree, Stay, Fork, Held, best, IsPlan, edits_of, new_table}
-use Rattle.least_table.specs.Trees.{inside}
-use Rattle.least_table.specs.Tables.{IsTable, half, half_of, own}
+use Rattle.least_table.specs.Tables.{IsTable, half, half_of, own, inside}
 use Rattle.least_table.specs.Wholes.{bare, whole, with_own}
 use Rattle.least_table.proofs.Distances.{has-half, has-own, is_own, stores-half, stores-own}
 use Rattle.least_table.proofs.Sets.{same_hop-refl}

@@ -3,8 +3,7 @@ use Rattle.std.specs.Prelude.{◌≡◌, ℕ, ◌+◌, Bool, false, List, length
 use Rattle.ipnet_blocks.specs.BitStrings.{begins}
 use Rattle.least_table.specs.InnerOrders.{IsInOrder}
 use Rattle.least_table.specs.Nearest.{IsNearest}
-use Rattle.least_table.specs.Tables.{IsTable, hop_under}
-use Rattle.least_table.specs.Trees.{inner_of}
+use Rattle.least_table.specs.Tables.{IsTable, hop_under, inner_of}
 use Rattle.nearest_table.specs.Blocks.{inherited, inner, put}
 use Rattle.nearest_table.specs.Edits.{AreEdits}
 use Rattle.nearest_table.specs.Plans.{Tree, IsPlan, edits_of, new_table}

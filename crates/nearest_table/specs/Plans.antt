@@ -1,7 +1,6 @@
 -- Plans of blocks: how a block is cut, its best inherited hops, and the edits and the new routes that follow.
 use Rattle.std.specs.Prelude.{◌≡◌, ℕ, suc, Bool, true, false, cond, List, [], ◌∷◌, ◌++◌, length, Option, Some, None}
-use Rattle.least_table.specs.Tables.{half, half_of, hop_under, longest, own}
-use Rattle.least_table.specs.Trees.{inside}
+use Rattle.least_table.specs.Tables.{half, half_of, hop_under, longest, own, inside}
 use Rattle.least_table.specs.Wholes.{bare}
 use Rattle.nearest_table.specs.Blocks.{Covers}
 use Rattle.least_table.specs.BestHops.{Hops, Any, Of, AreMerged, first, wants}

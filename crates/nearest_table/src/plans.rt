@@ -6,8 +6,7 @@ ghost use Rattle.nearest_table.specs.InnerPlans.{Fits, HasMore, IsFork, IsTold, 
 ghost use Rattle.nearest_table.specs.Plans.{IsPlan, best, edits_of};
 ghost use Rattle.least_table.specs.BestHops.{passed_on};
 ghost use Rattle.nearest_table.specs.Settled.{passed_by, settled, settled_held};
-ghost use Rattle.least_table.specs.Trees.{within};
-ghost use Rattle.least_table.specs.Tables.{IsTable, own, passed};
+ghost use Rattle.least_table.specs.Tables.{IsTable, own, passed, within};
 ghost use Rattle.nearest_table.specs.Blocks.{inner, innermost};
 ghost use Rattle.nearest_table.specs.Told.{new_hop};
 ghost use Rattle.nearest_table.specs.Wanted.{Rises, hops_from};

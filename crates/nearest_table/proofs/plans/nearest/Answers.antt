@@ -1,10 +1,9 @@
 use Rattle.std.proofs.Common.{arith, ◌-◌, ◌∙◌, ◌++◌, ap, length, None}
 use Rattle.nearest_table.specs.InnerPlans.{tree_of}
 use Rattle.nearest_table.specs.Plans.{edits_of}
-use Rattle.least_table.specs.Trees.{within}
 use Rattle.nearest_table.specs.Blocks.{inner}
 use Rattle.nearest_table.specs.Told.{new_hop}
-use Rattle.least_table.specs.Tables.{passed}
+use Rattle.least_table.specs.Tables.{passed, within}
 use Rattle.nearest_table.proofs.Puts.{fits_plan, made, table_at}
 use Rattle.nearest_table.proofs.plans.nearest.Goals as goal
 

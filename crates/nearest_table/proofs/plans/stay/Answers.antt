@@ -1,5 +1,6 @@
 use Rattle.nearest_table.specs.InnerPlans.{IsJoined, tree_of}
-use Rattle.nearest_table.proofs.Stays.{if_some_map, stay_idle_idle, stay_idle_one, stay_one_idle, stay_one_one}
+use Rattle.least_table.proofs.Stores.{if_some_map}
+use Rattle.nearest_table.proofs.Stays.{stay_idle_idle, stay_idle_one, stay_one_idle, stay_one_one}
 use Rattle.nearest_table.proofs.plans.stay.Goals as goal
 
 pub returns-in-Idle-Idle : goal.returns-in-Idle-Idle

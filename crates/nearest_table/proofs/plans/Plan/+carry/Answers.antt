@@ -1,7 +1,7 @@
 use Rattle.std.proofs.Common.{◌∙◌, ap, sym, ◌++◌}
 use Rattle.nearest_table.specs.InnerPlans.{tree_of}
 use Rattle.nearest_table.specs.Plans.{best, edits_of}
-use Rattle.least_table.specs.Trees.{within}
+use Rattle.least_table.specs.Tables.{within}
 use Rattle.nearest_table.specs.Wanted.{hops_from, hops_of}
 use Rattle.nearest_table.proofs.Settles.{carried_fork, on_ok_map}
 use Rattle.nearest_table.proofs.plans.Plan.+carry.Goals as goal
