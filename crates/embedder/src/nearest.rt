@@ -1,9 +1,9 @@
 //! The fewest operations that give the addresses of a table new hops.
 ghost use Rattle.std.specs.Prelude.{◌≡◌, ◌≤◌, IfOk, None, length};
 ghost use Rattle.least_table.specs.InnerOrders.{IsInOrder};
-ghost use Rattle.least_table.specs.Tables.{IsTable};
+ghost use Rattle.least_table.specs.Tables.{IsBitTable};
 ghost use Rattle.nearest_table.specs.Changed.{AreInside};
-ghost use Rattle.least_table.specs.Nearest.{IsFewest};
+ghost use Rattle.least_table.specs.Nearest.{IsLeastDistance};
 ghost use Rattle.nearest_table.specs.Told.{told_hop};
 
 use nearest_table::nearest;
@@ -25,11 +25,11 @@ pub fn needed<I: Installed, C: Table>(
     requires same { C.width ≡ I.width }
     requires short { I.width ≤ 128 }
     requires fits { length block.now ≤ I.width }
-    requires installed { IsTable I.width (I.routes installed.now) }
+    requires installed { IsBitTable I.width (I.routes installed.now) }
     requires order { IsInOrder (I.routes installed.now) }
-    requires changes { IsTable I.width (C.routes changes.now) }
+    requires changes { IsBitTable I.width (C.routes changes.now) }
     requires inside { AreInside I.width block.now (C.routes changes.now) }
-    ensures { IfOk result (IsFewest I.width (told_hop (C.routes changes.now) (I.routes installed.now)) (I.routes installed.now) None) }
+    ensures { IfOk result (IsLeastDistance I.width (told_hop (C.routes changes.now) (I.routes installed.now)) (I.routes installed.now) None) }
 {
     let edits = nearest(alloc, installed, changes, block)?;
     Ok(edits.len())

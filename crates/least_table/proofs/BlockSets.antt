@@ -5,7 +5,7 @@ use Rattle.std.proofs.lemmas.List.{drop-append-le, get_or-map, get_or-set_other,
 use Rattle.std.proofs.Math.Seq.{get_or-append_seam}
 use Rattle.std.specs.declared.alloc.Global.{Global}
 use Rattle.std.specs.declared.vec.Vec.{Vec}
-use Rattle.least_table.specs.InnerSets.{HasSet, KeepsSets, block_of, set_at, set_in, size_in, size_of}
+use Rattle.least_table.specs.InnerSets.{HasSet, KeepsSets, block_of_set, set_at, set_in, size_in, size_of}
 
 abbrev Stands : List (Option ℕ) → ℕ → Type 0
 Stands block place = suc place + size_in block place ≤ length block
@@ -36,7 +36,7 @@ module _ (sets : List (List (Option ℕ))) (i : ℕ) (within : i < length sets) 
   abbrev longer : List (Option ℕ)
   longer = slice_index_or sets i [] ++ more
 
-  there : (at : ℕ) → at / 512 ≡ i → block_of (slice_set sets i longer) at ≡ longer
+  there : (at : ℕ) → at / 512 ≡ i → block_of_set (slice_set sets i longer) at ≡ longer
   there at e = ap (λ k. slice_index_or (slice_set sets i longer) k []) e ∙ get_or-set_same sets i longer [] within
 
   keeps_longer : KeepsSets sets (slice_set sets i longer)
@@ -47,7 +47,7 @@ module _ (sets : List (List (Option ℕ))) (i : ℕ) (within : i < length sets) 
 
       same : at / 512 ≡ i → HasSet (slice_set sets i longer) at × (set_at (slice_set sets i longer) at ≡ set_at sets at)
       same e =
-          let was : block_of sets at ≡ slice_index_or sets i [] = ap (λ k. slice_index_or sets k []) e in
+          let was : block_of_set sets at ≡ slice_index_or sets i [] = ap (λ k. slice_index_or sets k []) e in
           let stood : Stands (slice_index_or sets i []) (at % 512) = subst (λ b. Stands b (at % 512)) was h in (
             subst (λ b. Stands b (at % 512)) (sym (there at e)) (stands_front (slice_index_or sets i []) more (at % 512) stood),
             ap (λ b. set_in b (at % 512)) (there at e) ∙ set_front (slice_index_or sets i []) more (at % 512) stood ∙ sym (ap (λ b. set_in b (at % 512)) was),
@@ -55,7 +55,7 @@ module _ (sets : List (List (Option ℕ))) (i : ℕ) (within : i < length sets) 
 
       other : (at / 512 ≡ i → ⊥) → HasSet (slice_set sets i longer) at × (set_at (slice_set sets i longer) at ≡ set_at sets at)
       other n =
-          let is : block_of (slice_set sets i longer) at ≡ block_of sets at = get_or-set_other sets i (at / 512) longer [] n in
+          let is : block_of_set (slice_set sets i longer) at ≡ block_of_set sets at = get_or-set_other sets i (at / 512) longer [] n in
           (subst (λ b. Stands b (at % 512)) (sym is) h, ap (λ b. set_in b (at % 512)) is)
 
 -- a set is added at the end of a block
@@ -78,8 +78,8 @@ module _ (blocks : List (Vec (Option ℕ) Global)) (i : ℕ) (block new : Vec (O
 
   pub has_appended : (at : ℕ) → at / 512 ≡ i → at % 512 ≡ length block.items → n ≡ length hops → HasSet (all (slice_set blocks i new)) at × (set_at (all (slice_set blocks i new)) at ≡ hops)
   has_appended at e p size =
-      let b : block_of (all (slice_set blocks i new)) at ≡ block.items ++ Some n ∷ hops =
-      ap (λ bs. block_of bs at) changed ∙ there (all blocks) i inside (Some n ∷ hops) at e ∙ ap (λ b. b ++ Some n ∷ hops) was in (
+      let b : block_of_set (all (slice_set blocks i new)) at ≡ block.items ++ Some n ∷ hops =
+      ap (λ bs. block_of_set bs at) changed ∙ there (all blocks) i inside (Some n ∷ hops) at e ∙ ap (λ b. b ++ Some n ∷ hops) was in (
         subst (λ c. Stands c (at % 512)) (sym b) (subst (Stands (block.items ++ Some n ∷ hops)) (sym p) (stands_here block.items hops n size)),
         ap (λ c. set_in c (at % 512)) b ∙ ap (set_in (block.items ++ Some n ∷ hops)) p ∙ set_here block.items hops n size,
       )

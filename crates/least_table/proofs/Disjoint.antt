@@ -3,7 +3,7 @@ use Rattle.std.proofs.Common.{◌≡◌, ℕ, suc, ◌<◌, Bool, true, false, L
 use Rattle.std.specs.declared.cmp.Ordering.TheVariants.{Less}
 use Rattle.ipnet_blocks.specs.BitStrings.{bits_cmp, begins}
 use Rattle.least_table.specs.Pieces.{AreDisjoint}
-use Rattle.least_table.specs.InnerPieces.{before, BeforeAll, IsAscending}
+use Rattle.least_table.specs.InnerPieces.{before, BeforeAll, AreRisingPieces}
 
 before_by : (a b : List Bool) → bits_cmp a b ≡ Less → begins a b ≡ false → before a b ≡ true
 before_by [] b e f = cc
@@ -17,6 +17,6 @@ before_all : (a : List Bool) (ps : List (List Bool × ℕ)) → ((i : ℕ) (d : 
 before_all a [] h = tt
 before_all a (p ∷ ps) h = (before_by a p.0 (h 0 p (omega arith)).0 (h 0 p (omega arith)).1, before_all a ps (λ i d l. h (suc i) d (omega (arith, l))))
 
-pub ascending_from : (ps : List (List Bool × ℕ)) → AreDisjoint ps → IsAscending ps
+pub ascending_from : (ps : List (List Bool × ℕ)) → AreDisjoint ps → AreRisingPieces ps
 ascending_from [] h = tt
 ascending_from (p ∷ ps) h = (before_all p.0 ps (λ j d l. h 0 (suc j) d (omega arith) (omega (arith, l))), ascending_from ps (λ i j d l m. h (suc i) (suc j) d (omega (arith, l)) (omega (arith, m))))

@@ -3,11 +3,11 @@ use Rattle.std.proofs.Common.{◌≡◌, ℕ, zero, suc, ◌-◌, ◌≤◌, ◌
 use Rattle.ipnet_blocks.specs.BitStrings.{begins}
 use Rattle.least_table.specs.InnerPacked.{best_at, steps_in}
 use Rattle.least_table.specs.InnerPieces.{AllBegin, AllShare, beyond}
-use Rattle.least_table.specs.InnerPlanners.{Plans}
-use Rattle.least_table.specs.InnerPlans.{Ends, OfHalf}
+use Rattle.least_table.specs.InnerPlanners.{HasPlan}
+use Rattle.least_table.specs.InnerPlans.{EndsWithPlan, OfHalf}
 use Rattle.least_table.specs.InnerSteps.{Step}
-use Rattle.least_table.specs.InnerTrees.{Tree, IsPlan, best}
-use Rattle.least_table.specs.Pieces.{hop_at}
+use Rattle.least_table.specs.InnerTrees.{LeastPlan, IsLeastPlan, plan_best}
+use Rattle.least_table.specs.Pieces.{piece_hop}
 use Rattle.least_table.specs.Tables.{half_of}
 use Rattle.least_table.specs.declared.plan.Steps.{Steps}
 use Rattle.least_table.proofs.Builds.{plan_same}
@@ -61,29 +61,29 @@ AllBegin-next d a b [] l e h = tt
 AllBegin-next d a b (p ∷ ps) l e h = (subst (λ c. begins (c ∷ []) (drop d p.0) ≡ true) e (begins_next d a p.0 l h.0), AllBegin-next d a b ps l e h.1)
 
 -- the last step of a plan is that of its block
-pub best_last : (xs : List Step) (p : Tree) (s : Steps) → Ends xs p s → (at : ℕ) → suc at ≡ length (steps_in s) → best_at s at ≡ best p
+pub best_last : (xs : List Step) (p : LeastPlan) (s : Steps) → EndsWithPlan xs p s → (at : ℕ) → suc at ≡ length (steps_in s) → best_at s at ≡ plan_best p
 best_last xs p s h at e = let i : at ≡ suc at - 1 = omega arith in ap (best_at s) i ∙ read_top p xs (steps_in s) [] (steps_in s) h.steps (sym (append-nil (steps_in s))) (suc at) e
 
 module _ (w : ℕ) where
   -- ---- the plan of a wider block, of whose halves one has no piece
 
-  wider_plan : (d : ℕ) (upper : Bool) (ps : List (List Bool × ℕ)) (p r : Tree) → d < w → AllBegin upper (beyond d ps) → OfHalf upper p r → IsPlan (w - suc d) (hop_at (beyond (suc d) ps)) p → IsPlan (w - d) (hop_at (beyond d ps)) r
+  wider_plan : (d : ℕ) (upper : Bool) (ps : List (List Bool × ℕ)) (p r : LeastPlan) → d < w → AllBegin upper (beyond d ps) → OfHalf upper p r → IsLeastPlan (w - suc d) (piece_hop (beyond (suc d) ps)) p → IsLeastPlan (w - d) (piece_hop (beyond d ps)) r
   wider_plan d upper ps p r l begin of_half plan =
       let share = share_bit upper (beyond d ps) begin in
       let more : suc (w - suc d) ≡ w - d = omega (arith, l) in
-      subst (λ v. IsPlan v (hop_at (beyond d ps)) r) more
-      (of_half (w - suc d) (hop_at (beyond d ps))
-      (plan_same (w - suc d) (half_of upper (hop_at (beyond d ps))) (hop_at (beyond (suc d) ps)) p (λ x. hop_inside (upper ∷ []) d ps share x ∙ ap (λ n. hop_at (beyond n ps) x) (add-one d)) plan)
+      subst (λ v. IsLeastPlan v (piece_hop (beyond d ps)) r) more
+      (of_half (w - suc d) (piece_hop (beyond d ps))
+      (plan_same (w - suc d) (half_of upper (piece_hop (beyond d ps))) (piece_hop (beyond (suc d) ps)) p (λ x. hop_inside (upper ∷ []) d ps share x ∙ ap (λ n. piece_hop (beyond n ps) x) (add-one d)) plan)
       (λ x e. none_outside (upper ∷ []) d ps share (not upper ∷ x) (begins_other upper [] x)))
 
   pub ascended : (a : List Bool) (to from : ℕ) (upper : Bool) (ps : List (List Bool × ℕ)) (xs : List Step) (old new : Steps) → length a ≤ w → from ≡ suc to → from ≤ length a → upper ≡ slice_index_or a to false
-      → (h : Plans w a from ps xs old) → (r : Tree) → OfHalf upper h.plan r → Ends xs r new → Plans w a to ps xs new
+      → (h : HasPlan w a from ps xs old) → (r : LeastPlan) → OfHalf upper h.plan r → EndsWithPlan xs r new → HasPlan w a to ps xs new
   ascended a to from upper ps xs old new inside e l bit h r of_half ends = record {
     plan = r;
     ends = ends;
     is = record {
       plans = wider_plan to upper ps h.plan r (omega (arith, e, l, inside)) (AllBegin-next to a upper ps (omega (arith, e, l)) (sym bit) (subst (λ n. AllShare (take n a) ps) e h.is.inside)) of_half
-          (subst (λ n. IsPlan (w - n) (hop_at (beyond n ps)) h.plan) e h.is.plans);
+          (subst (λ n. IsLeastPlan (w - n) (piece_hop (beyond n ps)) h.plan) e h.is.plans);
       inside = AllShare-less to from a ps (omega (arith, e)) h.is.inside;
     };
   }

@@ -1,7 +1,7 @@
 -- What the steps of a plan store, as the routes of its tree.
 use Rattle.std.proofs.Common.{◌≡◌, ℕ, Bool, true, false, cond, not, ◌&&◌, List, [], ◌∷◌, ◌++◌, Option, Some, None, is_some, refl, sym, ap, ap₂, ◌∙◌, append_assoc, append-nil}
 use Rattle.least_table.specs.BestHops.{Of, passed_on}
-use Rattle.least_table.specs.HopSets.{holds, first_of}
+use Rattle.least_table.specs.HopSets.{holds, first_hop}
 use Rattle.least_table.specs.InnerTrees.{beside, dropped, with_best}
 use Rattle.least_table.specs.Tables.{inside, within}
 use Rattle.least_table.proofs.Stores.{within-halves, within_within}
@@ -18,12 +18,12 @@ fork_stored c b L H s f own = ap (λ t. cond c [] ((b, own) ∷ []) ++ t) (sym (
 -- the routes that are added for a block: those of its parts, and then its own
 pub cut_stored : (b : List Bool) (hops : List (Option ℕ)) (parts : Option ℕ → List (List Bool × Option ℕ)) (s k : Option ℕ) (is_new : Bool) (old mid new : List (List Bool × Option ℕ)) → k ≡ passed_on (Of hops) s → is_new ≡ not (holds hops s)
     → mid ≡ within b (parts k) ++ old → new ≡ cond is_new ((b, k) ∷ []) [] ++ mid → new ≡ within b (with_best hops parts s) ++ old
-cut_stored b hops parts s k is_new old mid new e f g h = h ∙ ap₂ (λ t u. t ++ u) own g ∙ sym (append_assoc route (within b (parts k)) old) ∙ ap (λ t. t ++ old) (ap (λ j. route ++ within b (parts j)) e ∙ own_stored (holds hops s) b parts s (first_of hops) (first_of hops))
+cut_stored b hops parts s k is_new old mid new e f g h = h ∙ ap₂ (λ t u. t ++ u) own g ∙ sym (append_assoc route (within b (parts k)) old) ∙ ap (λ t. t ++ old) (ap (λ j. route ++ within b (parts j)) e ∙ own_stored (holds hops s) b parts s (first_hop hops) (first_hop hops))
   where
     route : List (List Bool × Option ℕ)
-    route = cond (holds hops s) [] ((b, first_of hops) ∷ [])
+    route = cond (holds hops s) [] ((b, first_hop hops) ∷ [])
 
-    own_route : (c : Bool) → cond {A = List (List Bool × Option ℕ)} (not c) ((b, cond c s (first_of hops)) ∷ []) [] ≡ cond c [] ((b, first_of hops) ∷ [])
+    own_route : (c : Bool) → cond {A = List (List Bool × Option ℕ)} (not c) ((b, cond c s (first_hop hops)) ∷ []) [] ≡ cond c [] ((b, first_hop hops) ∷ [])
     own_route true = refl
     own_route false = refl
 

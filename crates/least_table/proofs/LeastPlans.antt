@@ -5,9 +5,9 @@ use Rattle.std.proofs.Math.ListN.{length-replicate}
 use Rattle.std.proofs.lemmas.Bool.{cases_Bool, false_from_ne_true, true_from_ne_false}
 use Rattle.ipnet_blocks.specs.BitStrings.{begins}
 use Rattle.least_table.specs.BestHops.{Of, AreMerged, AreBest}
-use Rattle.least_table.specs.HopSets.{same_hop, holds, meets, extra_route}
-use Rattle.least_table.specs.InnerTrees.{Tree, Leaf, Fork, Skip, AreAbove, IsPlan, NoHops, NoneOutside, beside, best, dropped, routes_of, with_best}
-use Rattle.least_table.specs.Tables.{IsLeast, half_of, inner_of, inside, within}
+use Rattle.least_table.specs.HopSets.{is_same_hop, holds, meets, extra_route}
+use Rattle.least_table.specs.InnerTrees.{LeastPlan, Leaf, Fork, Skip, AreAbove, IsLeastPlan, NoHops, NoneOutside, beside, plan_best, dropped, plan_routes, with_best}
+use Rattle.least_table.specs.Tables.{IsLeastTable, half_of, inner_of, inside, within}
 use Rattle.least_table.proofs.Makes.{Makes, Best-stay, empty_law, fork_made, made_nearest, stay_made}
 use Rattle.least_table.proofs.Merges.{Best-fork}
 use Rattle.least_table.proofs.Sets.{same_hop-refl, same_hop-true, one_holds, meets-true, meets-false}
@@ -50,7 +50,7 @@ and_one false true f = absurd (let e = f refl in cc)
 and_one false false f = refl
 
 merged_in : (k : Option ℕ) (hops : List (Option ℕ)) → holds hops k ≡ true → AreMerged (Of (k ∷ [])) (Of hops) (Of (k ∷ []))
-merged_in k hops e j = rw (meets_one k hops, e) (and_one (holds hops j) (same_hop j k) (λ f. ap (holds hops) (same_hop-true j k f) ∙ e))
+merged_in k hops e j = rw (meets_one k hops, e) (and_one (holds hops j) (is_same_hop j k) (λ f. ap (holds hops) (same_hop-true j k f) ∙ e))
 
 -- the merged set of one hop and another set has this hop
 merged_has : (k : Option ℕ) (hops cs : List (Option ℕ)) → AreMerged (Of (k ∷ [])) (Of hops) (Of cs) → holds cs k ≡ true
@@ -108,7 +108,7 @@ are_above below [] = λ j. go j (holds below None) refl
   where
     go : (j : Option ℕ) (c : Bool) → holds below None ≡ c → holds (cond c (None ∷ []) (None ∷ below)) j ≡ cond (meets (None ∷ []) below) (holds (None ∷ []) j && holds below j) (holds (None ∷ []) j || holds below j)
     go j true e = merged_in None below e j
-    go j false e = rw (meets_one None below, e) (ap (λ u. u || holds below j) (sym (or-false (same_hop j None))))
+    go j false e = rw (meets_one None below, e) (ap (λ u. u || holds below j) (sym (or-false (is_same_hop j None))))
 are_above below (c ∷ ds) = refl
 
 above_has : (below : List (Option ℕ)) (ds : List Bool) (hops : List (Option ℕ)) → AreAbove below ds hops → holds hops None ≡ true
@@ -162,24 +162,24 @@ module _ (v : ℕ) (below : List (Option ℕ)) (m : ℕ) where
       go (Some k) u same made = subst (λ t. Makes (suc u) h (Some k) [] (([], None) ∷ beside b None t) (m + extra_route (holds below None) + 1)) same (made (Some k))
 
 -- how many routes the tree has if its block inherits a best hop
-abbrev count : Tree → ℕ
+abbrev count : LeastPlan → ℕ
 count (Leaf k) = 0
-count (Fork hops l r) = count l + count r + extra_route (meets (best l) (best r))
-count (Skip hops b ds t) = count t + extra_route (holds (best t) None)
+count (Fork hops l r) = count l + count r + extra_route (meets (plan_best l) (plan_best r))
+count (Skip hops b ds t) = count t + extra_route (holds (plan_best t) None)
 
-Best-tree : (w : ℕ) (h : List Bool → Option ℕ) (t : Tree) → IsPlan w h t → AreBest w h [] (Of (best t)) (count t)
+Best-tree : (w : ℕ) (h : List Bool → Option ℕ) (t : LeastPlan) → IsLeastPlan w h t → AreBest w h [] (Of (plan_best t)) (count t)
 Best-tree w h (Leaf k) same = Best-one w h (Some k) same
 Best-tree w h (Fork hops l r) plan =
     let v = plan.0 in
-    rw (plan.1) (Best-fork v h [] tt refl (Of (best l)) (Of (best r)) (Of hops) (count l) (count r) (Best-tree v (half_of false h) l plan.3) (Best-tree v (half_of true h) r plan.4) plan.2)
-Best-tree w h (Skip hops b ds t) plan = Best-skip plan.0 (best t) (count t) ds b w h hops plan.1 plan.2 plan.3 (Best-tree plan.0 (inner_of (b ∷ ds) h) t plan.4)
+    rw (plan.1) (Best-fork v h [] tt refl (Of (plan_best l)) (Of (plan_best r)) (Of hops) (count l) (count r) (Best-tree v (half_of false h) l plan.3) (Best-tree v (half_of true h) r plan.4) plan.2)
+Best-tree w h (Skip hops b ds t) plan = Best-skip plan.0 (plan_best t) (count t) ds b w h hops plan.1 plan.2 plan.3 (Best-tree plan.0 (inner_of (b ∷ ds) h) t plan.4)
 
-makes : (w : ℕ) (h : List Bool → Option ℕ) (t : Tree) → IsPlan w h t → (s : Option ℕ) → Makes w h s [] (routes_of t s) (count t + extra_route (holds (best t) s))
+makes : (w : ℕ) (h : List Bool → Option ℕ) (t : LeastPlan) → IsLeastPlan w h t → (s : Option ℕ) → Makes w h s [] (plan_routes t s) (count t + extra_route (holds (plan_best t) s))
 makes w h (Leaf k) same s = one_made w h (Some k) same s
-makes w h (Skip hops b ds t) plan s = skip_made plan.0 (best t) (count t) (routes_of t) ds b w h hops plan.1 plan.2 plan.3 (makes plan.0 (inner_of (b ∷ ds) h) t plan.4) s
+makes w h (Skip hops b ds t) plan s = skip_made plan.0 (plan_best t) (count t) (plan_routes t) ds b w h hops plan.1 plan.2 plan.3 (makes plan.0 (inner_of (b ∷ ds) h) t plan.4) s
 makes w h (Fork hops l r) plan s =
     let v = plan.0 in
-    rw (plan.1) (fork_made v h [] tt refl (Of (best l)) (Of (best r)) (Of hops) (count l) (count r) plan.2 (Best-tree w h (Fork hops l r) plan).some (routes_of l) (routes_of r) (makes v (half_of false h) l plan.3) (makes v (half_of true h) r plan.4) s)
+    rw (plan.1) (fork_made v h [] tt refl (Of (plan_best l)) (Of (plan_best r)) (Of hops) (count l) (count r) plan.2 (Best-tree w h (Fork hops l r) plan).some (plan_routes l) (plan_routes r) (makes v (half_of false h) l plan.3) (makes v (half_of true h) r plan.4) s)
 
-pub plans_are_least : (w : ℕ) (h : List Bool → Option ℕ) (t : Tree) → IsPlan w h t → IsLeast w h (routes_of t None)
-plans_are_least w h t plan = (empty_law w h (routes_of t None)).1.1 (made_nearest w h None [] (routes_of t None) (Of (best t)) (count t) (Best-tree w h t plan) (makes w h t plan None))
+pub plans_are_least : (w : ℕ) (h : List Bool → Option ℕ) (t : LeastPlan) → IsLeastPlan w h t → IsLeastTable w h (plan_routes t None)
+plans_are_least w h t plan = (empty_law w h (plan_routes t None)).1.1 (made_nearest w h None [] (plan_routes t None) (Of (plan_best t)) (count t) (Best-tree w h t plan) (makes w h t plan None))

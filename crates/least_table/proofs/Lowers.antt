@@ -4,16 +4,16 @@ use Rattle.std.proofs.lemmas.List.{drop-append-le, length-take-le, map-id, rever
 use Rattle.ipnet_blocks.specs.BitStrings.{begins}
 use Rattle.ipnet_blocks.proofs.BitStrings.{take_begins}
 use Rattle.least_table.specs.InnerPacked.{AreWhole, steps_in}
-use Rattle.least_table.specs.InnerPieces.{AllBegin, AllShare, IsAscending, before, beyond, shared}
-use Rattle.least_table.specs.InnerPlanners.{Plans, EndAt, HasPlanned, IsLower, AreLowers, ArePlanned, IsInside}
-use Rattle.least_table.specs.Pieces.{AreDisjoint, hop_at, strings}
-use Rattle.least_table.specs.InnerPlans.{Ends, EndsIn, IsPlanOf, OfHalves, Stores}
+use Rattle.least_table.specs.InnerPieces.{AllBegin, AllShare, AreRisingPieces, before, beyond, shared}
+use Rattle.least_table.specs.InnerPlanners.{HasPlan, EndAt, HasPlanned, IsLower, AreLowers, ArePlanned, IsDeeper}
+use Rattle.least_table.specs.Pieces.{AreDisjoint, piece_hop, strings}
+use Rattle.least_table.specs.InnerPlans.{EndsWithPlan, EndsWithin, IsPlanOf, JoinsHalves, Stores}
 use Rattle.least_table.specs.InnerSteps.{Step, steps_of, top}
 use Rattle.least_table.specs.InnerSteps as steps
 use Rattle.least_table.specs.declared.plan.Steps.{Steps}
 use Rattle.least_table.specs.declared.planner.Lower.{Lower}
 use Rattle.least_table.specs.declared.planner.Planner.{Planner}
-use Rattle.least_table.specs.InnerTrees.{Tree, Fits, IsPlan, routes_of}
+use Rattle.least_table.specs.InnerTrees.{LeastPlan, PlanFits, IsLeastPlan, plan_routes}
 use Rattle.least_table.specs.InnerTrees as trees
 use Rattle.least_table.specs.Tables.{within}
 use Rattle.least_table.proofs.Builds.{fits_plan, halves_made}
@@ -85,15 +85,15 @@ parts (true ∷ a) (true ∷ z) e = let h = parts a z e in record { short = omeg
 parts (false ∷ a) (false ∷ z) e = let h = parts a z e in record { short = omega (arith, h.short); other = omega (arith, h.other); same = ap (λ t. false ∷ t) h.same; next = ap (λ t. false ∷ t) h.next; low = h.low; high = h.high }
 
 -- the last piece comes before the next one
-pub last_before : (ps : List (List Bool × ℕ)) (p q : List Bool × ℕ) → IsAscending ((ps ++ p ∷ []) ++ q ∷ []) → before p.0 q.0 ≡ true
+pub last_before : (ps : List (List Bool × ℕ)) (p q : List Bool × ℕ) → AreRisingPieces ((ps ++ p ∷ []) ++ q ∷ []) → before p.0 q.0 ≡ true
 last_before [] p q h = h.0.0
 last_before (x ∷ ps) p q h = last_before ps p q h.1
 
 module _ (w : ℕ) where
   -- ---- a lower half is joined with the upper one
 
-  pub joined : (a : List Bool) (o : Lower) (ps qs : List (List Bool × ℕ)) (xs : List Step) (mid new : Steps) (l : IsLower w a o ps xs) (h : Plans w a (o.depth + 1) qs xs mid) → o.depth < length a → length a ≤ w
-      → (r : Tree) → OfHalves l.plan h.plan r → Ends l.before r new → Plans w a o.depth (l.pieces ++ qs) l.before new
+  pub joined : (a : List Bool) (o : Lower) (ps qs : List (List Bool × ℕ)) (xs : List Step) (mid new : Steps) (l : IsLower w a o ps xs) (h : HasPlan w a (o.depth + 1) qs xs mid) → o.depth < length a → length a ≤ w
+      → (r : LeastPlan) → JoinsHalves l.plan h.plan r → EndsWithPlan l.before r new → HasPlan w a o.depth (l.pieces ++ qs) l.before new
   joined a o ps qs xs mid new l h inside fit r of_halves ends = record {
     plan = r;
     ends = ends;
@@ -101,7 +101,7 @@ module _ (w : ℕ) where
       plans = halves_made w o.depth (length l.pieces) (l.pieces ++ qs) l.pieces qs l.plan h.plan r (omega (arith, inside, fit))
           (subst (λ rs. AllBegin false (beyond o.depth rs)) (sym front) (AllBegin-behind o.depth a false l.pieces (omega (arith, inside)) l.is.inside))
           (subst (λ rs. AllBegin true (beyond o.depth rs)) (sym back) (AllBegin-next o.depth a true qs inside l.upper (subst (λ n. AllShare (take n a) qs) (add-one o.depth) h.is.inside)))
-          of_halves (sym front) (sym back) l.is.plans (subst (λ n. IsPlan (w - n) (hop_at (beyond n qs)) h.plan) (add-one o.depth) h.is.plans);
+          of_halves (sym front) (sym back) l.is.plans (subst (λ n. IsLeastPlan (w - n) (piece_hop (beyond n qs)) h.plan) (add-one o.depth) h.is.plans);
       inside = AllShare-append (take o.depth a) l.pieces qs (AllShare-front (take o.depth a) (false ∷ []) l.pieces l.is.inside) (AllShare-less o.depth (o.depth + 1) a qs (omega arith) h.is.inside);
     };
   }
@@ -114,7 +114,7 @@ module _ (w : ℕ) where
 
   -- ---- the lower halves
 
-  pub fewer : (d e : ℕ) (os : List Lower) (a : List Bool) (ps : List (List Bool × ℕ)) (xs : List Step) → AreLowers w os a d ps xs → IsInside e os → AreLowers w os a e ps xs
+  pub fewer : (d e : ℕ) (os : List Lower) (a : List Bool) (ps : List (List Bool × ℕ)) (xs : List Step) → AreLowers w os a d ps xs → IsDeeper e os → AreLowers w os a e ps xs
   fewer d e [] a ps xs h i = h
   fewer d e (o ∷ os) a ps xs h i = (i, h.1, h.2)
 
@@ -153,7 +153,7 @@ module _ (w : ℕ) where
       lt_of_ne f = omega (arith, f, h.0)
 
   -- a plan has steps
-  pub some_step : (xs : List Step) (p : Tree) (s : Steps) → Ends xs p s → 0 < length (steps_in s)
+  pub some_step : (xs : List Step) (p : LeastPlan) (s : Steps) → EndsWithPlan xs p s → 0 < length (steps_in s)
   some_step xs p s h = omega (arith, ap length h.steps ∙ length-append xs (steps_of p), ap length (top_last p), length-append (below p) (top p ∷ []))
 
   -- the one that the last piece lies in, where the next one lies in the upper half
@@ -179,10 +179,10 @@ module _ (w : ℕ) where
   -- ---- a piece is added
 
   -- all addresses of its block have its hop
-  piece_plan : (z : List Bool) (hop : ℕ) → IsPlan (w - length z) (hop_at (beyond (length z) ((z, hop) ∷ []))) (trees.Leaf hop)
+  piece_plan : (z : List Bool) (hop : ℕ) → IsLeastPlan (w - length z) (piece_hop (beyond (length z) ((z, hop) ∷ []))) (trees.Leaf hop)
   piece_plan z hop x l = rw (drop_of_length-le z {i = length z} (omega arith)) refl
 
-  pub piece_planned : (z : List Bool) (hop : ℕ) (xs : List Step) (new : Steps) → steps_in new ≡ xs ++ steps.Uncut hop ∷ [] → AreWhole new → Plans w z (length z) ((z, hop) ∷ []) xs new
+  pub piece_planned : (z : List Bool) (hop : ℕ) (xs : List Step) (new : Steps) → steps_in new ≡ xs ++ steps.Uncut hop ∷ [] → AreWhole new → HasPlan w z (length z) ((z, hop) ∷ []) xs new
   piece_planned z hop xs new e whole = record {
     plan = trees.Leaf hop;
     ends = record { steps = e; whole = whole; rising = (tt, tt) };
@@ -206,9 +206,9 @@ module _ (w : ℕ) where
   -- ---- the plan of all addresses
 
   pub record IsWhole (ps : List (List Bool × ℕ)) (s : Steps) : Type 0 where
-    pub plan : Tree
-    pub plans : IsPlan w (hop_at ps) plan
-    pub ends : EndsIn w [] plan s
+    pub plan : LeastPlan
+    pub plans : IsLeastPlan w (piece_hop ps) plan
+    pub ends : EndsWithin w [] plan s
 
   pub whole_plan : (a : List Bool) (ps : List (List Bool × ℕ)) (os : List Lower) (s : Steps) → ArePlanned w a 0 0 ps os s → IsWhole ps s
   whole_plan a ps os s h = go (reverse os) h.lower
@@ -218,18 +218,18 @@ module _ (w : ℕ) where
       go [] l =
           let all : h.pieces ≡ ps = sym (h.all ∙ ap (λ t. t ++ h.pieces) l.0) in
           let z : w - 0 ≡ w = omega arith in
-          let made = subst (λ qs. IsPlan (w - 0) (hop_at qs) h.plans.plan) (map-id h.pieces ∙ all) h.plans.is.plans in
+          let made = subst (λ qs. IsLeastPlan (w - 0) (piece_hop qs) h.plans.plan) (map-id h.pieces ∙ all) h.plans.is.plans in
           record {
             plan = h.plans.plan;
-            plans = subst (λ n. IsPlan n (hop_at ps) h.plans.plan) z made;
-            ends = record { steps = h.plans.ends.steps ∙ ap (λ t. t ++ steps_of h.plans.plan) l.1; whole = h.plans.ends.whole; room = subst (λ n. Fits n h.plans.plan) z (fits_plan (w - 0) (hop_at ps) h.plans.plan made) };
+            plans = subst (λ n. IsLeastPlan n (piece_hop ps) h.plans.plan) z made;
+            ends = record { steps = h.plans.ends.steps ∙ ap (λ t. t ++ steps_of h.plans.plan) l.1; whole = h.plans.ends.whole; room = subst (λ n. PlanFits n h.plans.plan) z (fits_plan (w - 0) (piece_hop ps) h.plans.plan made) };
           }
 
 -- its routes are those that it stores, and no others
-pub whole_routes : {B : Type 0} (string : B → List Bool) (q : List Bool) (p : Tree) (old new : List (B × Option ℕ)) (before after : Steps) → q ≡ [] → old ≡ [] → Stores string q None [] p old new before after → strings string new ≡ routes_of p None
+pub whole_routes : {B : Type 0} (string : B → List Bool) (q : List Bool) (p : LeastPlan) (old new : List (B × Option ℕ)) (before after : Steps) → q ≡ [] → old ≡ [] → Stores string q None [] p old new before after → strings string new ≡ plan_routes p None
 whole_routes string q p old new before after e f h =
-    h.routes ∙ ap₂ (λ u t. within u (routes_of p None) ++ strings string t) e f ∙ append-nil (within [] (routes_of p None)) ∙ within-whole (routes_of p None)
+    h.routes ∙ ap₂ (λ u t. within u (plan_routes p None) ++ strings string t) e f ∙ append-nil (within [] (plan_routes p None)) ∙ within-whole (plan_routes p None)
 
 -- a block without bits has them all free
-pub from_top : (w : ℕ) (q : List Bool) (xs : List Step) (p : Tree) (s : Steps) → q ≡ [] → EndsIn w xs p s → EndsIn (w - length q) xs p s
-from_top w q xs p s e h = let n : w ≡ w - length q = omega (arith, ap length e) in subst (λ m. EndsIn m xs p s) n h
+pub from_top : (w : ℕ) (q : List Bool) (xs : List Step) (p : LeastPlan) (s : Steps) → q ≡ [] → EndsWithin w xs p s → EndsWithin (w - length q) xs p s
+from_top w q xs p s e h = let n : w ≡ w - length q = omega (arith, ap length e) in subst (λ m. EndsWithin m xs p s) n h

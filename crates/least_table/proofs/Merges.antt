@@ -2,9 +2,9 @@
 use Rattle.std.proofs.Common.{◌≡◌, ℕ, suc, ◌+◌, ◌≤◌, Bool, true, false, cond, ◌&&◌, ◌||◌, List, Option, None, refl, sym, ap, ◌∙◌, subst, arith, inl, inr, ⊎_elim}
 use Rattle.std.proofs.lemmas.Bool.{cases_Bool}
 use Rattle.least_table.specs.HopSets.{extra_route}
-use Rattle.least_table.specs.BestHops.{Hops, Any, Of, wants, first, agree, AreMerged, AreBest}
+use Rattle.least_table.specs.BestHops.{Hops, Any, Of, wants, first_best_hop, agree, AreMerged, AreBest}
 use Rattle.ipnet_blocks.specs.Halves.{IsLesser}
-use Rattle.least_table.specs.Tables.{IsTable, half, half_of, own, passed}
+use Rattle.least_table.specs.Tables.{IsBitTable, half, half_of, own, passed}
 use Rattle.least_table.proofs.Halves.{from_lesser}
 use Rattle.least_table.proofs.Sets.{meets-true, meets-false, first_of-holds}
 
@@ -20,7 +20,7 @@ agree-false Any b e k f g = cc
 agree-false (Of as') Any e k f g = cc
 agree-false (Of as') (Of bs) e k f g = meets-false as' bs e k f g
 
-pub first-wanted : (a : Hops) (k : Option ℕ) → wants a k ≡ true → wants a (first a) ≡ true
+pub first-wanted : (a : Hops) (k : Option ℕ) → wants a k ≡ true → wants a (first_best_hop a) ≡ true
 first-wanted Any k e = refl
 first-wanted (Of ks) k e = first_of-holds ks k e
 
@@ -50,7 +50,7 @@ more a b c merged k e = go (agree a b) (wants a k) (wants b k) (sym (merged k) �
     go false false true f = cc
     go false false false f = omega arith
 
-module _ (w : ℕ) (h : List Bool → Option ℕ) (t : List (List Bool × Option ℕ)) (table : IsTable (suc w) t) (none : own t ≡ None) (a b c : Hops) (m n : ℕ)
+module _ (w : ℕ) (h : List Bool → Option ℕ) (t : List (List Bool × Option ℕ)) (table : IsBitTable (suc w) t) (none : own t ≡ None) (a b c : Hops) (m n : ℕ)
     (low : AreBest w (half_of false h) (half t false) a m) (high : AreBest w (half_of true h) (half t true) b n) (merged : AreMerged a b c) where
   abbrev f : Option ℕ → ℕ
   f k = m + extra_route (wants a k)

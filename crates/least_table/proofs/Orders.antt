@@ -6,8 +6,8 @@ use Rattle.std.proofs.lemmas.List.Kept.{AllPairs-cons}
 use Rattle.std.proofs.lemmas.Bool.{cond_both}
 use Rattle.ipnet_blocks.specs.BitStrings.{bits_cmp}
 use Rattle.trie_core.proofs.Strings.{bits_cmp-under}
-use Rattle.least_table.specs.HopSets.{holds, first_of}
-use Rattle.least_table.specs.InnerTrees.{Tree, Leaf, Fork, Skip, beside, dropped, routes_of, with_best}
+use Rattle.least_table.specs.HopSets.{holds, first_hop}
+use Rattle.least_table.specs.InnerTrees.{LeastPlan, Leaf, Fork, Skip, beside, dropped, plan_routes, with_best}
 use Rattle.least_table.specs.Tables.{inside, own, within}
 use Rattle.least_table.specs.Wholes.{with_own}
 use Rattle.least_table.proofs.Split.{joined, own-joined}
@@ -47,7 +47,7 @@ IsInOrder-with (Some k) t e h = (after_whole t e, h)
 
 -- the routes of a block that is cut, by those that its parts have under each hop
 cut_in_order : (r : Option ℕ → List (List Bool × Option ℕ)) (hops : List (Option ℕ)) (s : Option ℕ) → ((k : Option ℕ) → IsInOrder (r k) × (own (r k) ≡ None)) → IsInOrder (with_best hops r s)
-cut_in_order r hops s h = cond_both (holds hops s) (r s) (([], first_of hops) ∷ r (first_of hops)) IsInOrder (λ e. (h s).0) (λ e. IsInOrder-with (Some (first_of hops)) (r (first_of hops)) (h (first_of hops)).1 (h (first_of hops)).0)
+cut_in_order r hops s h = cond_both (holds hops s) (r s) (([], first_hop hops) ∷ r (first_hop hops)) IsInOrder (λ e. (h s).0) (λ e. IsInOrder-with (Some (first_hop hops)) (r (first_hop hops)) (h (first_hop hops)).1 (h (first_hop hops)).0)
 
 joined_order : (l r : List (List Bool × Option ℕ)) → IsInOrder l → IsInOrder r → IsInOrder (joined l r) × (own (joined l r) ≡ None)
 joined_order l r h k = (IsInOrder-joined l r h k, own-joined l r)
@@ -60,10 +60,10 @@ beside_order : (b : Bool) (s : Option ℕ) (t : List (List Bool × Option ℕ)) 
 beside_order true s t h = joined_order (dropped s) t (IsInOrder-dropped s) h
 beside_order false s t h = joined_order t (dropped s) h (IsInOrder-dropped s)
 
-pub IsInOrder-routes : (t : Tree) (s : Option ℕ) → IsInOrder (routes_of t s)
+pub IsInOrder-routes : (t : LeastPlan) (s : Option ℕ) → IsInOrder (plan_routes t s)
 IsInOrder-routes (Leaf k) s = cut_in_order (λ i. []) (Some k ∷ []) s (λ i. (tt, refl))
-IsInOrder-routes (Fork hops l r) s = cut_in_order (λ k. joined (routes_of l k) (routes_of r k)) hops s (λ k. joined_order (routes_of l k) (routes_of r k) (IsInOrder-routes l k) (IsInOrder-routes r k))
-IsInOrder-routes (Skip hops b ds t) s = cut_in_order (λ k. beside b k (within ds (routes_of t k))) hops s (λ k. beside_order b k (within ds (routes_of t k)) (IsInOrder-within ds (routes_of t k) (IsInOrder-routes t k)))
+IsInOrder-routes (Fork hops l r) s = cut_in_order (λ k. joined (plan_routes l k) (plan_routes r k)) hops s (λ k. joined_order (plan_routes l k) (plan_routes r k) (IsInOrder-routes l k) (IsInOrder-routes r k))
+IsInOrder-routes (Skip hops b ds t) s = cut_in_order (λ k. beside b k (within ds (plan_routes t k))) hops s (λ k. beside_order b k (within ds (plan_routes t k)) (IsInOrder-within ds (plan_routes t k) (IsInOrder-routes t k)))
 
 all_after : (x : List Bool) (t : List (List Bool × Option ℕ)) → ComesBeforeAll x t → All (λ r. bits_cmp x r.0 ≡ Less) t
 all_after x [] h = All-nil (λ r. bits_cmp x r.0 ≡ Less)

@@ -4,27 +4,27 @@ use Rattle.std.proofs.lemmas.List.{map-append, length-map, get_or-map}
 use Rattle.ipnet_blocks.specs.Blocks.{digits}
 use Rattle.least_table.specs.InnerSteps.{Step, Cut, step_best}
 use Rattle.least_table.specs.InnerSets.{KeepsSets}
-use Rattle.least_table.specs.InnerPacked.{step_of, IsKept, AreKept, AreWhole, best_at, steps_in, Grows}
+use Rattle.least_table.specs.InnerPacked.{stored_step, IsKeptStep, AreKept, AreWhole, best_at, steps_in, Grows}
 use Rattle.least_table.specs.declared.plan.Packed.{Packed}
 use Rattle.least_table.specs.declared.plan.Packed.TheVariants.{Leaf, Hop, NoHop, HopOrNone, Set}
 use Rattle.least_table.specs.declared.plan.Steps.{Steps}
 
 module _ (sets new : List (List (Option ℕ))) (keeps : KeepsSets sets new) where
-  step_front : (x : Packed) → IsKept sets x → step_of new x ≡ step_of sets x
+  step_front : (x : Packed) → IsKeptStep sets x → stored_step new x ≡ stored_step sets x
   step_front (Leaf k) h = refl
   step_front (Hop n x k) h = refl
   step_front (NoHop n x) h = refl
   step_front (HopOrNone n x k) h = refl
   step_front (Set n x at) h = ap (λ ks. Cut (digits n x) ks) (keeps at h.2).1
 
-  kept_front : (x : Packed) → IsKept sets x → IsKept new x
+  kept_front : (x : Packed) → IsKeptStep sets x → IsKeptStep new x
   kept_front (Leaf k) h = tt
   kept_front (Hop n x k) h = h
   kept_front (NoHop n x) h = h
   kept_front (HopOrNone n x k) h = h
   kept_front (Set n x at) h = (h.0, h.1, (keeps at h.2).0)
 
-  steps_front : (xs : List Packed) → AreKept sets xs → map (step_of new) xs ≡ map (step_of sets) xs
+  steps_front : (xs : List Packed) → AreKept sets xs → map (stored_step new) xs ≡ map (stored_step sets) xs
   steps_front [] h = refl
   steps_front (x ∷ xs) h = ap₂ (λ y ys. y ∷ ys) (step_front x h.0) (steps_front xs h.1)
 
@@ -37,40 +37,40 @@ pub keeps_same : (sets new : List (List (Option ℕ))) → new ≡ sets → Keep
 keeps_same sets new e = subst (KeepsSets sets) (sym e) (λ at h. (h, refl))
 
 -- one step is appended, after what it names
-pub grown : (old new : Steps) (p : Packed) (x : Step) → new.steps ≡ old.steps ++ p ∷ [] → KeepsSets old.sets new.sets → AreWhole old → IsKept new.sets p → step_of new.sets p ≡ x → Grows old new (x ∷ [])
+pub grown : (old new : Steps) (p : Packed) (x : Step) → new.steps ≡ old.steps ++ p ∷ [] → KeepsSets old.sets new.sets → AreWhole old → IsKeptStep new.sets p → stored_step new.sets p ≡ x → Grows old new (x ∷ [])
 grown old new p x e keeps h kept is = record {
-  steps = ap (λ ys. map (step_of new.sets) ys) e ∙ map-append (step_of new.sets) old.steps (p ∷ []) ∙ ap₂ (λ ys y. ys ++ y ∷ []) (steps_front old.sets new.sets keeps old.steps h) is;
+  steps = ap (λ ys. map (stored_step new.sets) ys) e ∙ map-append (stored_step new.sets) old.steps (p ∷ []) ∙ ap₂ (λ ys y. ys ++ y ∷ []) (steps_front old.sets new.sets keeps old.steps h) is;
   whole = subst (λ ys. AreKept new.sets ys) (sym e) (all_front old.sets new.sets keeps old.steps (p ∷ []) h (kept, tt));
 }
 
 -- one that names nothing new
-pub grown_by : (old new : Steps) (p : Packed) → new.steps ≡ old.steps ++ p ∷ [] → new.sets ≡ old.sets → AreWhole old → IsKept old.sets p → Grows old new (step_of old.sets p ∷ [])
-grown_by old new p e f h kept = grown old new p (step_of old.sets p) e (keeps_same old.sets new.sets f) h (rw f kept) (rw f refl)
+pub grown_by : (old new : Steps) (p : Packed) → new.steps ≡ old.steps ++ p ∷ [] → new.sets ≡ old.sets → AreWhole old → IsKeptStep old.sets p → Grows old new (stored_step old.sets p ∷ [])
+grown_by old new p e f h kept = grown old new p (stored_step old.sets p) e (keeps_same old.sets new.sets f) h (rw f kept) (rw f refl)
 
 -- ---- the last step is taken off
 
 module _ (left : Steps) (rest : List Packed) (x : Packed) (e : left.steps ≡ rest ++ x ∷ []) where
-  pub popped : steps_in left ≡ map (step_of left.sets) rest ++ step_of left.sets x ∷ []
-  popped = ap (λ ys. map (step_of left.sets) ys) e ∙ map-append (step_of left.sets) rest (x ∷ [])
+  pub popped : steps_in left ≡ map (stored_step left.sets) rest ++ stored_step left.sets x ∷ []
+  popped = ap (λ ys. map (stored_step left.sets) ys) e ∙ map-append (stored_step left.sets) rest (x ∷ [])
 
-  pub kept_popped : AreWhole left → AreKept left.sets rest × IsKept left.sets x
+  pub kept_popped : AreWhole left → AreKept left.sets rest × IsKeptStep left.sets x
   kept_popped h = go rest (subst (λ ys. AreKept left.sets ys) e h)
     where
-      go : (ys : List Packed) → AreKept left.sets (ys ++ x ∷ []) → AreKept left.sets ys × IsKept left.sets x
+      go : (ys : List Packed) → AreKept left.sets (ys ++ x ∷ []) → AreKept left.sets ys × IsKeptStep left.sets x
       go [] h = (tt, h.0)
       go (y ∷ ys) h = let r = go ys h.1 in ((h.0, r.0), r.1)
 
-kept_at : (sets : List (List (Option ℕ))) (xs : List Packed) (i : ℕ) (d : Packed) → i < length xs → AreKept sets xs → IsKept sets (slice_index_or xs i d)
+kept_at : (sets : List (List (Option ℕ))) (xs : List Packed) (i : ℕ) (d : Packed) → i < length xs → AreKept sets xs → IsKeptStep sets (slice_index_or xs i d)
 kept_at sets [] i d l h = absurd (omega (arith, l))
 kept_at sets (x ∷ xs) zero d l h = h.0
 kept_at sets (x ∷ xs) (suc i) d l h = kept_at sets xs i d (omega (arith, l)) h.1
 
 module _ (s : Steps) (at : ℕ) (x : Packed) (within : at < length (steps_in s)) (e : x ≡ slice_index_or s.steps at x) where
   inside : at < length s.steps
-  inside = omega (arith, within, length-map s.steps (step_of s.sets))
+  inside = omega (arith, within, length-map s.steps (stored_step s.sets))
 
-  pub kept_read : AreWhole s → IsKept s.sets x
-  kept_read h = subst (λ y. IsKept s.sets y) (sym e) (kept_at s.sets s.steps at x inside h)
+  pub kept_read : AreWhole s → IsKeptStep s.sets x
+  kept_read h = subst (λ y. IsKeptStep s.sets y) (sym e) (kept_at s.sets s.steps at x inside h)
 
-  pub best_read : (hops : List (Option ℕ)) → hops ≡ step_best (step_of s.sets x) → hops ≡ best_at s at
-  best_read hops f = f ∙ ap (λ y. step_best (step_of s.sets y)) e ∙ ap step_best (sym (get_or-map (step_of s.sets) s.steps at x (Cut [] []) inside))
+  pub best_read : (hops : List (Option ℕ)) → hops ≡ step_best (stored_step s.sets x) → hops ≡ best_at s at
+  best_read hops f = f ∙ ap (λ y. step_best (stored_step s.sets y)) e ∙ ap step_best (sym (get_or-map (stored_step s.sets) s.steps at x (Cut [] []) inside))

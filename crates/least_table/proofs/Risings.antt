@@ -5,7 +5,7 @@ use Rattle.std.proofs.lemmas.List.Folds.{list_any-append}
 use Rattle.std.proofs.lemmas.List.{take_all}
 use Rattle.std.proofs.Math.Bool.{or-false, and_comm, or_assoc, or_comm, or-and_distrib_left}
 use Rattle.least_table.specs.BestHops.{Of, AreMerged}
-use Rattle.least_table.specs.HopSets.{same_hop, holds, meets}
+use Rattle.least_table.specs.HopSets.{is_same_hop, holds, meets}
 use Rattle.least_table.specs.InnerRising.{is_less, IsLessAll, IsRising, AreCommon, AreAll, CommonLeft, AllLeft}
 use Rattle.least_table.proofs.Sets.{same_hop-true, same_hop-refl, meets-true, meets-false}
 
@@ -27,8 +27,8 @@ neither None (Some j) e f = cc
 neither (Some i) None e f = cc
 neither (Some i) (Some j) e f = ap (λ n. Some n) (let a = ltb-false _ _ e in let b = ltb-false _ _ f in omega (arith, a, b))
 
-not_same : (x y : Option ℕ) → is_less x y ≡ true → same_hop x y ≡ false
-not_same x y e = false_from_ne_true (same_hop x y) (λ f. less_irrefl y (subst (λ z. is_less z y ≡ true) (same_hop-true x y f) e))
+not_same : (x y : Option ℕ) → is_less x y ≡ true → is_same_hop x y ≡ false
+not_same x y e = false_from_ne_true (is_same_hop x y) (λ f. less_irrefl y (subst (λ z. is_less z y ≡ true) (same_hop-true x y f) e))
 
 not_in : (x : Option ℕ) (ys : List (Option ℕ)) → IsLessAll x ys → holds ys x ≡ false
 not_in x [] h = refl
@@ -72,11 +72,11 @@ insert_rises x y (o ∷ out) xs ys e h k = (insert_all o x y out xs ys h.0 k.0, 
 pushed : (out xs : List (Option ℕ)) (x : Option ℕ) → IsRising (out ++ x ∷ xs) → IsRising ((out ++ x ∷ []) ++ xs)
 pushed out xs x h = rw (append_assoc out (x ∷ []) xs) h
 
-holds_pushed : (out : List (Option ℕ)) (x k : Option ℕ) → holds (out ++ x ∷ []) k ≡ (holds out k || same_hop k x)
-holds_pushed out x k = list_any-append (λ j. same_hop k j) out (x ∷ []) ∙ ap (λ u. holds out k || u) (or-false (same_hop k x))
+holds_pushed : (out : List (Option ℕ)) (x k : Option ℕ) → holds (out ++ x ∷ []) k ≡ (holds out k || is_same_hop k x)
+holds_pushed out x k = list_any-append (λ j. is_same_hop k j) out (x ∷ []) ∙ ap (λ u. holds out k || u) (or-false (is_same_hop k x))
 
 -- k is not in ys where it is the lesser x
-lesser_out : (x y k : Option ℕ) (ys : List (Option ℕ)) → is_less x y ≡ true → IsLessAll y ys → same_hop k x ≡ true → holds (y ∷ ys) k ≡ false
+lesser_out : (x y k : Option ℕ) (ys : List (Option ℕ)) → is_less x y ≡ true → IsLessAll y ys → is_same_hop k x ≡ true → holds (y ∷ ys) k ≡ false
 lesser_out x y k ys e h f = ap (holds (y ∷ ys)) (same_hop-true k x f) ∙ not_in x (y ∷ ys) (less_cons x y ys e h)
 
 drop_left : (o u v w : Bool) → (u ≡ true → w ≡ false) → (o || ((u || v) && w)) ≡ (o || (v && w))
@@ -122,14 +122,14 @@ module _ (low high out : List (Option ℕ)) where
   step_common_low = both_cons (λ a b. is_less (head a) (head b) ≡ true → CommonLeft low high out a b → CommonLeft low high out (tail a) b) (λ x y xs ys e h. rw (tail_cons x xs) (record {
     low_rises = skip_rises x out xs h.low_rises;
     high_rises = h.high_rises;
-    same = λ k. h.same k ∙ drop_left (holds out k) (same_hop k x) (holds xs k) (holds (y ∷ ys) k) (lesser_out x y k ys e (rest_rises out (y ∷ ys) h.high_rises).0);
+    same = λ k. h.same k ∙ drop_left (holds out k) (is_same_hop k x) (holds xs k) (holds (y ∷ ys) k) (lesser_out x y k ys e (rest_rises out (y ∷ ys) h.high_rises).0);
   }))
 
   pub step_common_high : (a b : List (Option ℕ)) → 0 < length a → 0 < length b → is_less (head b) (head a) ≡ true → CommonLeft low high out a b → CommonLeft low high out a (tail b)
   step_common_high = both_cons (λ a b. is_less (head b) (head a) ≡ true → CommonLeft low high out a b → CommonLeft low high out a (tail b)) (λ x y xs ys e h. rw (tail_cons y ys) (record {
     low_rises = h.low_rises;
     high_rises = skip_rises y out ys h.high_rises;
-    same = λ k. h.same k ∙ drop_right (holds out k) (same_hop k y) (holds (x ∷ xs) k) (holds ys k) (lesser_out y x k xs e (rest_rises out (x ∷ xs) h.low_rises).0);
+    same = λ k. h.same k ∙ drop_right (holds out k) (is_same_hop k y) (holds (x ∷ xs) k) (holds ys k) (lesser_out y x k xs e (rest_rises out (x ∷ xs) h.low_rises).0);
   }))
 
   pub step_common_both : (a b : List (Option ℕ)) → 0 < length a → 0 < length b → is_less (head a) (head b) ≡ false → is_less (head b) (head a) ≡ false → CommonLeft low high out a b → CommonLeft low high (out ++ head a ∷ []) (tail a) (tail b)
@@ -137,21 +137,21 @@ module _ (low high out : List (Option ℕ)) where
     low_rises = pushed out xs x h.low_rises;
     high_rises = pushed out ys x (subst (λ z. IsRising (out ++ z ∷ ys)) (sym (neither x y e f)) h.high_rises);
     same = λ k. subst (λ z. (holds low k && holds high k) ≡ (holds out k || (holds (x ∷ xs) k && holds (z ∷ ys) k))) (sym (neither x y e f)) (h.same k)
-        ∙ take_both (holds out k) (same_hop k x) (holds xs k) (holds ys k) ∙ ap (λ u. u || (holds xs k && holds ys k)) (sym (holds_pushed out x k));
+        ∙ take_both (holds out k) (is_same_hop k x) (holds xs k) (holds ys k) ∙ ap (λ u. u || (holds xs k && holds ys k)) (sym (holds_pushed out x k));
   }))
 
   pub step_all_low : (a b : List (Option ℕ)) → 0 < length a → 0 < length b → is_less (head a) (head b) ≡ true → AllLeft low high out a b → AllLeft low high (out ++ head a ∷ []) (tail a) b
   step_all_low = both_cons (λ a b. is_less (head a) (head b) ≡ true → AllLeft low high out a b → AllLeft low high (out ++ head a ∷ []) (tail a) b) (λ x y xs ys e h. rw (tail_cons x xs) (record {
     low_rises = pushed out xs x h.low_rises;
     high_rises = pushed out (y ∷ ys) x (insert_rises x y out xs ys e h.low_rises h.high_rises);
-    same = λ k. h.same k ∙ take_left (holds out k) (same_hop k x) (holds xs k) (holds (y ∷ ys) k) ∙ ap (λ u. u || (holds xs k || holds (y ∷ ys) k)) (sym (holds_pushed out x k));
+    same = λ k. h.same k ∙ take_left (holds out k) (is_same_hop k x) (holds xs k) (holds (y ∷ ys) k) ∙ ap (λ u. u || (holds xs k || holds (y ∷ ys) k)) (sym (holds_pushed out x k));
   }))
 
   pub step_all_high : (a b : List (Option ℕ)) → 0 < length a → 0 < length b → is_less (head b) (head a) ≡ true → AllLeft low high out a b → AllLeft low high (out ++ head b ∷ []) a (tail b)
   step_all_high = both_cons (λ a b. is_less (head b) (head a) ≡ true → AllLeft low high out a b → AllLeft low high (out ++ head b ∷ []) a (tail b)) (λ x y xs ys e h. rw (tail_cons y ys) (record {
     low_rises = pushed out (x ∷ xs) y (insert_rises y x out ys xs e h.high_rises h.low_rises);
     high_rises = pushed out ys y h.high_rises;
-    same = λ k. h.same k ∙ take_right (holds out k) (same_hop k y) (holds (x ∷ xs) k) (holds ys k) ∙ ap (λ u. u || (holds (x ∷ xs) k || holds ys k)) (sym (holds_pushed out y k));
+    same = λ k. h.same k ∙ take_right (holds out k) (is_same_hop k y) (holds (x ∷ xs) k) (holds ys k) ∙ ap (λ u. u || (holds (x ∷ xs) k || holds ys k)) (sym (holds_pushed out y k));
   }))
 
 pub common_begin : (low high out : List (Option ℕ)) → out ≡ [] → IsRising low → IsRising high → CommonLeft low high out low high
@@ -165,8 +165,8 @@ common_end low high out (x ∷ a) (y ∷ b) (inl e) h = absurd (omega (arith, e)
 common_end low high out (x ∷ a) (y ∷ b) (inr e) h = absurd (omega (arith, e))
 
 pub all_end : (low high out a b : List (Option ℕ)) → (length a ≡ 0) ⊎ (length b ≡ 0) → AllLeft low high out a b → AreAll low high ((out ++ a) ++ b)
-all_end low high out [] b e h = rw (append-nil out) (record { rising = h.high_rises; same = λ k. list_any-append (λ j. same_hop k j) out b ∙ sym (h.same k) })
-all_end low high out (x ∷ a) [] e h = rw (append-nil (out ++ x ∷ a)) (record { rising = h.low_rises; same = λ k. list_any-append (λ j. same_hop k j) out (x ∷ a) ∙ sym (h.same k ∙ ap (λ u. holds out k || u) (or-false (holds (x ∷ a) k))) })
+all_end low high out [] b e h = rw (append-nil out) (record { rising = h.high_rises; same = λ k. list_any-append (λ j. is_same_hop k j) out b ∙ sym (h.same k) })
+all_end low high out (x ∷ a) [] e h = rw (append-nil (out ++ x ∷ a)) (record { rising = h.low_rises; same = λ k. list_any-append (λ j. is_same_hop k j) out (x ∷ a) ∙ sym (h.same k ∙ ap (λ u. holds out k || u) (or-false (holds (x ∷ a) k))) })
 all_end low high out (x ∷ a) (y ∷ b) (inl e) h = absurd (omega (arith, e))
 all_end low high out (x ∷ a) (y ∷ b) (inr e) h = absurd (omega (arith, e))
 

@@ -2,7 +2,7 @@
 use Rattle.std.proofs.Common.{◌≡◌, ℕ, suc, ◌<◌, Bool, true, false, cond, List, [], ◌∷◌, ◌++◌, length, nat_lt, Option, Some, None, refl, ap, ◌∙◌, arith, inl, inr, map}
 use Rattle.std.proofs.lemmas.Bool.{ltb-true, ltb-false, lt-ltb, le-ltb, cases_Bool}
 use Rattle.ipnet_blocks.specs.BitStrings.{begins}
-use Rattle.least_table.specs.Tables.{Absent, IsTable, half, inside, longer, longest, hop_of, hop_under, own, passed, within}
+use Rattle.least_table.specs.Tables.{Absent, IsBitTable, half, inside, longer_route, longest_route, matched_hop, hop_inheriting, own, passed, within}
 
 abbrev pub lifted : Bool → Option (Option ℕ) → Option (List Bool × Option ℕ) → Option (List Bool × Option ℕ)
 lifted b o (Some r) = Some (b ∷ r.0, r.1)
@@ -10,13 +10,13 @@ lifted b (Some k) None = Some ([], k)
 lifted b None None = None
 
 -- a route at the empty block gives way to any longer one
-longer_own : (b : Bool) (k : Option ℕ) (o : Option (Option ℕ)) (m : Option (List Bool × Option ℕ)) → longer ([], k) (lifted b o m) ≡ lifted b (Some k) m
+longer_own : (b : Bool) (k : Option ℕ) (o : Option (Option ℕ)) (m : Option (List Bool × Option ℕ)) → longer_route ([], k) (lifted b o m) ≡ lifted b (Some k) m
 longer_own b k None None = refl
 longer_own b k (Some j) None = refl
 longer_own b k o (Some r) = let e : nat_lt 0 (suc (length r.0)) ≡ true = lt-ltb _ _ (omega arith) in rw e refl
 
 -- one more bit changes no comparison
-longer_half : (b : Bool) (c : List Bool) (k : Option ℕ) (o : Option (Option ℕ)) (m : Option (List Bool × Option ℕ)) → longer (b ∷ c, k) (lifted b o m) ≡ lifted b o (longer (c, k) m)
+longer_half : (b : Bool) (c : List Bool) (k : Option ℕ) (o : Option (Option ℕ)) (m : Option (List Bool × Option ℕ)) → longer_route (b ∷ c, k) (lifted b o m) ≡ lifted b o (longer_route (c, k) m)
 longer_half b c k None None = refl
 longer_half b c k (Some j) None = let e : nat_lt (suc (length c)) 0 ≡ false = le-ltb _ _ (omega arith) in rw e refl
 longer_half b c k o (Some r) =
@@ -29,28 +29,28 @@ cond_lifted : (b : Bool) (o : Option (Option ℕ)) (v : Bool) (m n : Option (Lis
 cond_lifted b o true m n = refl
 cond_lifted b o false m n = refl
 
-pub longest-half : (t : List (List Bool × Option ℕ)) (b : Bool) (x : List Bool) → longest t (b ∷ x) ≡ lifted b (own t) (longest (half t b) x)
-longest-half [] b x = refl
-longest-half (([], k) ∷ t) b x = rw (longest-half t b x) (longer_own b k (own t) (longest (half t b) x))
-longest-half ((false ∷ c, k) ∷ t) false x = rw (longest-half t false x, longer_half false c k (own t) (longest (half t false) x)) (cond_lifted false (own t) (begins c x) _ _)
-longest-half ((false ∷ c, k) ∷ t) true x = longest-half t true x
-longest-half ((true ∷ c, k) ∷ t) false x = longest-half t false x
-longest-half ((true ∷ c, k) ∷ t) true x = rw (longest-half t true x, longer_half true c k (own t) (longest (half t true) x)) (cond_lifted true (own t) (begins c x) _ _)
+pub longest_route-half : (t : List (List Bool × Option ℕ)) (b : Bool) (x : List Bool) → longest_route t (b ∷ x) ≡ lifted b (own t) (longest_route (half t b) x)
+longest_route-half [] b x = refl
+longest_route-half (([], k) ∷ t) b x = rw (longest_route-half t b x) (longer_own b k (own t) (longest_route (half t b) x))
+longest_route-half ((false ∷ c, k) ∷ t) false x = rw (longest_route-half t false x, longer_half false c k (own t) (longest_route (half t false) x)) (cond_lifted false (own t) (begins c x) _ _)
+longest_route-half ((false ∷ c, k) ∷ t) true x = longest_route-half t true x
+longest_route-half ((true ∷ c, k) ∷ t) false x = longest_route-half t false x
+longest_route-half ((true ∷ c, k) ∷ t) true x = rw (longest_route-half t true x, longer_half true c k (own t) (longest_route (half t true) x)) (cond_lifted true (own t) (begins c x) _ _)
 
-hop_of-lifted : (s : Option ℕ) (b : Bool) (o : Option (Option ℕ)) (m : Option (List Bool × Option ℕ)) → hop_of s (lifted b o m) ≡ hop_of (passed s o) m
+hop_of-lifted : (s : Option ℕ) (b : Bool) (o : Option (Option ℕ)) (m : Option (List Bool × Option ℕ)) → matched_hop s (lifted b o m) ≡ matched_hop (passed s o) m
 hop_of-lifted s b None None = refl
 hop_of-lifted s b (Some k) None = refl
 hop_of-lifted s b o (Some r) = refl
 
 -- the hop of an address is its hop in its half, under what the table's own route hands down
-pub hop-half : (s : Option ℕ) (t : List (List Bool × Option ℕ)) (b : Bool) (x : List Bool) → hop_under s t (b ∷ x) ≡ hop_under (passed s (own t)) (half t b) x
-hop-half s t b x = ap (hop_of s) (longest-half t b x) ∙ hop_of-lifted s b (own t) (longest (half t b) x)
+pub hop-half : (s : Option ℕ) (t : List (List Bool × Option ℕ)) (b : Bool) (x : List Bool) → hop_inheriting s t (b ∷ x) ≡ hop_inheriting (passed s (own t)) (half t b) x
+hop-half s t b x = ap (matched_hop s) (longest_route-half t b x) ∙ hop_of-lifted s b (own t) (longest_route (half t b) x)
 
 -- only an own route contains the empty address
-pub longest-empty : (t : List (List Bool × Option ℕ)) → own t ≡ None → longest t [] ≡ None
-longest-empty [] e = refl
-longest-empty (([], k) ∷ t) e = cc
-longest-empty ((b ∷ c, k) ∷ t) e = longest-empty t e
+pub longest_route-empty : (t : List (List Bool × Option ℕ)) → own t ≡ None → longest_route t [] ≡ None
+longest_route-empty [] e = refl
+longest_route-empty (([], k) ∷ t) e = cc
+longest_route-empty ((b ∷ c, k) ∷ t) e = longest_route-empty t e
 
 pub own-absent : (t : List (List Bool × Option ℕ)) → Absent [] t → own t ≡ None
 own-absent [] h = refl
@@ -65,13 +65,13 @@ Absent-half ((false ∷ d, k) ∷ t) true c h = Absent-half t true c h.1
 Absent-half ((true ∷ d, k) ∷ t) false c h = Absent-half t false c h.1
 Absent-half ((true ∷ d, k) ∷ t) true c h = ((λ e. h.0 (ap (λ y. true ∷ y) e)), Absent-half t true c h.1)
 
-pub IsTable-half : (w : ℕ) (t : List (List Bool × Option ℕ)) (b : Bool) → IsTable (suc w) t → IsTable w (half t b)
-IsTable-half w [] b h = tt
-IsTable-half w (([], k) ∷ t) b h = IsTable-half w t b h.2
-IsTable-half w ((false ∷ c, k) ∷ t) false h = (omega (arith, h.0), Absent-half t false c h.1, IsTable-half w t false h.2)
-IsTable-half w ((false ∷ c, k) ∷ t) true h = IsTable-half w t true h.2
-IsTable-half w ((true ∷ c, k) ∷ t) false h = IsTable-half w t false h.2
-IsTable-half w ((true ∷ c, k) ∷ t) true h = (omega (arith, h.0), Absent-half t true c h.1, IsTable-half w t true h.2)
+pub IsBitTable-half : (w : ℕ) (t : List (List Bool × Option ℕ)) (b : Bool) → IsBitTable (suc w) t → IsBitTable w (half t b)
+IsBitTable-half w [] b h = tt
+IsBitTable-half w (([], k) ∷ t) b h = IsBitTable-half w t b h.2
+IsBitTable-half w ((false ∷ c, k) ∷ t) false h = (omega (arith, h.0), Absent-half t false c h.1, IsBitTable-half w t false h.2)
+IsBitTable-half w ((false ∷ c, k) ∷ t) true h = IsBitTable-half w t true h.2
+IsBitTable-half w ((true ∷ c, k) ∷ t) false h = IsBitTable-half w t false h.2
+IsBitTable-half w ((true ∷ c, k) ∷ t) true h = (omega (arith, h.0), Absent-half t true c h.1, IsBitTable-half w t true h.2)
 
 -- what is made of the tables of the halves
 abbrev pub joined : List (List Bool × Option ℕ) → List (List Bool × Option ℕ) → List (List Bool × Option ℕ)
@@ -104,13 +104,13 @@ Absent-append : (b : List Bool) (t u : List (List Bool × Option ℕ)) → Absen
 Absent-append b [] u h k = k
 Absent-append b (r ∷ t) u h k = (h.0, Absent-append b t u h.1 k)
 
-IsTable-inside : (w : ℕ) (b : Bool) (t : List (List Bool × Option ℕ)) → IsTable w t → IsTable (suc w) (inside b t)
-IsTable-inside w b [] h = tt
-IsTable-inside w b (r ∷ t) h = (omega (arith, h.0), Absent-inside b r.0 t h.1, IsTable-inside w b t h.2)
+IsBitTable-inside : (w : ℕ) (b : Bool) (t : List (List Bool × Option ℕ)) → IsBitTable w t → IsBitTable (suc w) (inside b t)
+IsBitTable-inside w b [] h = tt
+IsBitTable-inside w b (r ∷ t) h = (omega (arith, h.0), Absent-inside b r.0 t h.1, IsBitTable-inside w b t h.2)
 
-pub IsTable-joined : (w : ℕ) (l r : List (List Bool × Option ℕ)) → IsTable w l → IsTable w r → IsTable (suc w) (joined l r)
-IsTable-joined w [] r h k = IsTable-inside w true r k
-IsTable-joined w (q ∷ l) r h k = (omega (arith, h.0), Absent-append _ (inside false l) (inside true r) (Absent-inside false q.0 l h.1) (Absent-map (λ p. (true ∷ p.0, p.1)) (false ∷ q.0) r (λ p e. cc)), IsTable-joined w l r h.2 k)
+pub IsBitTable-joined : (w : ℕ) (l r : List (List Bool × Option ℕ)) → IsBitTable w l → IsBitTable w r → IsBitTable (suc w) (joined l r)
+IsBitTable-joined w [] r h k = IsBitTable-inside w true r k
+IsBitTable-joined w (q ∷ l) r h k = (omega (arith, h.0), Absent-append _ (inside false l) (inside true r) (Absent-inside false q.0 l h.1) (Absent-map (λ p. (true ∷ p.0, p.1)) (false ∷ q.0) r (λ p e. cc)), IsBitTable-joined w l r h.2 k)
 
 pub Absent-joined : (l r : List (List Bool × Option ℕ)) → Absent [] (joined l r)
 Absent-joined l r = Absent-append [] (inside false l) (inside true r) (Absent-map (λ p. (false ∷ p.0, p.1)) [] l (λ p e. cc)) (Absent-map (λ p. (true ∷ p.0, p.1)) [] r (λ p e. cc))

@@ -5,10 +5,10 @@ use Rattle.least_table.specs.BestHops.{Of, passed_on}
 use Rattle.least_table.specs.HopSets.{holds}
 use Rattle.least_table.specs.Pieces.{strings}
 use Rattle.least_table.specs.Tables.{inside, within}
-use Rattle.least_table.specs.InnerPacked.{AreWhole, IsKept, step_of, steps_in}
-use Rattle.least_table.specs.InnerPlans.{EndsIn, Stores}
+use Rattle.least_table.specs.InnerPacked.{AreWhole, IsKeptStep, stored_step, steps_in}
+use Rattle.least_table.specs.InnerPlans.{EndsWithin, Stores}
 use Rattle.least_table.specs.InnerSteps.{Step, path_in, step_best, steps_of, top}
-use Rattle.least_table.specs.InnerTrees.{Tree, Leaf, Fork, Skip, Fits, beside, best, routes_of, with_best}
+use Rattle.least_table.specs.InnerTrees.{LeastPlan, Leaf, Fork, Skip, PlanFits, beside, plan_best, plan_routes, with_best}
 use Rattle.least_table.specs.declared.plan.Packed.{Packed}
 use Rattle.least_table.specs.declared.plan.Steps.{Steps}
 use Rattle.least_table.proofs.GrownStores.{beside_stored, cut_stored}
@@ -25,15 +25,15 @@ same_ends xs ys x y e =
     (sym (reverse-reverse xs) ∙ ap reverse g ∙ reverse-reverse ys, h)
 
 -- the last step is that of the block
-pub last_taken : (xs : List Step) (old left : Steps) (x : Step) (p : Tree) → steps_in old ≡ steps_in left ++ x ∷ [] → steps_in old ≡ xs ++ steps_of p → (steps_in left ≡ xs ++ below p) × (x ≡ top p)
+pub last_taken : (xs : List Step) (old left : Steps) (x : Step) (p : LeastPlan) → steps_in old ≡ steps_in left ++ x ∷ [] → steps_in old ≡ xs ++ steps_of p → (steps_in left ≡ xs ++ below p) × (x ≡ top p)
 last_taken xs old left x p e f = same_ends (steps_in left) (xs ++ below p) x (top p) (sym e ∙ f ∙ ap (λ t. xs ++ t) (top_last p) ∙ sym (append_assoc xs (below p) (top p ∷ [])))
 
 -- a plan has steps
-pub never_empty : (xs : List Step) (p : Tree) (s : Steps) → steps_in s ≡ xs ++ steps_of p → s.steps ≡ [] → ⊥
-never_empty xs p s ends e = omega (arith, ap length (sym ends ∙ ap (map (step_of s.sets)) e), length-append xs (steps_of p), ap length (top_last p), length-append (below p) (top p ∷ []))
+pub never_empty : (xs : List Step) (p : LeastPlan) (s : Steps) → steps_in s ≡ xs ++ steps_of p → s.steps ≡ [] → ⊥
+never_empty xs p s ends e = omega (arith, ap length (sym ends ∙ ap (map (stored_step s.sets)) e), length-append xs (steps_of p), ap length (top_last p), length-append (below p) (top p ∷ []))
 
-pub ends_at : (n m : ℕ) (xs : List Step) (p : Tree) (s : Steps) → n ≡ m → EndsIn m xs p s → EndsIn n xs p s
-ends_at n m xs p s e h = subst (λ i. EndsIn i xs p s) (sym e) h
+pub ends_at : (n m : ℕ) (xs : List Step) (p : LeastPlan) (s : Steps) → n ≡ m → EndsWithin m xs p s → EndsWithin n xs p s
+ends_at n m xs p s e h = subst (λ i. EndsWithin i xs p s) (sym e) h
 
 -- a path that is not empty
 pub some_level : (n : ℕ) → (n == 0) ≡ false → 0 < n
@@ -45,26 +45,26 @@ abbrev pub left_of : Steps → List Packed → Steps
 left_of old rest = record { steps = rest; sets = old.sets }
 
 -- what a plan is whose last step cuts the block into halves, or into a smaller block
-pub record Forked (n : ℕ) (xs : List Step) (p : Tree) (left : Steps) : Type 0 where
+pub record Forked (n : ℕ) (xs : List Step) (p : LeastPlan) (left : Steps) : Type 0 where
   pub hops : List (Option ℕ)
-  pub low : Tree
-  pub high : Tree
+  pub low : LeastPlan
+  pub high : LeastPlan
   pub room : ℕ
   pub is : p ≡ Fork hops low high
   pub deep : n ≡ suc room
-  pub above : EndsIn room (xs ++ steps_of low) high left
-  pub below_room : Fits room low
+  pub above : EndsWithin room (xs ++ steps_of low) high left
+  pub below_room : PlanFits room low
 
-pub record Skipped (way : List Bool) (n : ℕ) (xs : List Step) (p : Tree) (left : Steps) : Type 0 where
+pub record Skipped (way : List Bool) (n : ℕ) (xs : List Step) (p : LeastPlan) (left : Steps) : Type 0 where
   pub hops : List (Option ℕ)
   pub half : Bool
   pub path : List Bool
-  pub inner : Tree
+  pub inner : LeastPlan
   pub room : ℕ
   pub is : p ≡ Skip hops half path inner
   pub turns : way ≡ half ∷ path
   pub deep : n ≡ suc (length path + room)
-  pub ends : EndsIn room xs inner left
+  pub ends : EndsWithin room xs inner left
 
 -- what the plan is by the step that is taken off
 module _ (n : ℕ) (old : Steps) (rest : List Packed) (y : Packed) (e : old.steps ≡ rest ++ y ∷ []) (xs : List Step) where
@@ -72,29 +72,29 @@ module _ (n : ℕ) (old : Steps) (rest : List Packed) (y : Packed) (e : old.step
   left = left_of old rest
 
   abbrev step : Step
-  step = step_of old.sets y
+  step = stored_step old.sets y
 
-  taken : (p : Tree) → EndsIn n xs p old → (steps_in left ≡ xs ++ below p) × (step ≡ top p)
+  taken : (p : LeastPlan) → EndsWithin n xs p old → (steps_in left ≡ xs ++ below p) × (step ≡ top p)
   taken p ends = last_taken xs old left step p (popped old rest y e) ends.steps
 
-  pub best_taken : (p : Tree) → EndsIn n xs p old → step_best step ≡ best p
+  pub best_taken : (p : LeastPlan) → EndsWithin n xs p old → step_best step ≡ plan_best p
   best_taken p ends = ap step_best (taken p ends).1 ∙ top_best p
 
-  path_taken : (p : Tree) → EndsIn n xs p old → path_in step ≡ path_in (top p)
+  path_taken : (p : LeastPlan) → EndsWithin n xs p old → path_in step ≡ path_in (top p)
   path_taken p ends = ap path_in (taken p ends).1
 
-  pub left_whole : (p : Tree) → EndsIn n xs p old → AreWhole left
+  pub left_whole : (p : LeastPlan) → EndsWithin n xs p old → AreWhole left
   left_whole p ends = (kept_popped old rest y e ends.whole).0
 
-  pub step_kept : (p : Tree) → EndsIn n xs p old → IsKept old.sets y
+  pub step_kept : (p : LeastPlan) → EndsWithin n xs p old → IsKeptStep old.sets y
   step_kept p ends = (kept_popped old rest y e ends.whole).1
 
-  pub leaf_of : (p : Tree) → EndsIn n xs p old → path_in step ≡ None → (k : ℕ) × (p ≡ Leaf k) × (steps_in left ≡ xs)
+  pub leaf_of : (p : LeastPlan) → EndsWithin n xs p old → path_in step ≡ None → (k : ℕ) × (p ≡ Leaf k) × (steps_in left ≡ xs)
   leaf_of (Leaf k) ends s = (k, refl, (taken (Leaf k) ends).0 ∙ append-nil xs)
   leaf_of (Fork hops l r) ends s = let z = sym (path_taken (Fork hops l r) ends) ∙ s in cc
   leaf_of (Skip hops b ds q) ends s = let z = sym (path_taken (Skip hops b ds q) ends) ∙ s in cc
 
-  pub fork_of : (way : List Bool) (p : Tree) → EndsIn n xs p old → path_in step ≡ Some way → length way ≡ 0 → Forked n xs p left
+  pub fork_of : (way : List Bool) (p : LeastPlan) → EndsWithin n xs p old → path_in step ≡ Some way → length way ≡ 0 → Forked n xs p left
   fork_of way (Leaf k) ends s l = let z = sym (path_taken (Leaf k) ends) ∙ s in cc
   fork_of way (Fork hops low high) ends s l = record {
     hops = hops;
@@ -111,7 +111,7 @@ module _ (n : ℕ) (old : Steps) (rest : List Packed) (y : Packed) (e : old.step
       let turns : way ≡ b ∷ ds = cc in
       absurd (omega (arith, l, ap length turns))
 
-  pub skip_of : (way : List Bool) (p : Tree) → EndsIn n xs p old → path_in step ≡ Some way → 0 < length way → Skipped way n xs p left
+  pub skip_of : (way : List Bool) (p : LeastPlan) → EndsWithin n xs p old → path_in step ≡ Some way → 0 < length way → Skipped way n xs p left
   skip_of way (Leaf k) ends s l = let z = sym (path_taken (Leaf k) ends) ∙ s in cc
   skip_of way (Fork hops low high) ends s l =
       let z = sym (path_taken (Fork hops low high) ends) ∙ s in
@@ -123,18 +123,18 @@ module _ (n : ℕ) (old : Steps) (rest : List Packed) (y : Packed) (e : old.step
       record { hops = hops; half = b; path = ds; inner = q; room = ends.room.0; is = refl; turns = turns; deep = ends.room.1; ends = record { steps = (taken (Skip hops b ds q) ends).0; whole = left_whole (Skip hops b ds q) ends; room = ends.room.2 } }
 
 -- the plan of the lower half, once the steps of the upper one are taken
-pub low_ends : (n : ℕ) (xs : List Step) (p : Tree) (rest mid : Steps) (f : Forked n xs p rest) → steps_in mid ≡ xs ++ steps_of f.low → AreWhole mid → EndsIn f.room xs f.low mid
+pub low_ends : (n : ℕ) (xs : List Step) (p : LeastPlan) (rest mid : Steps) (f : Forked n xs p rest) → steps_in mid ≡ xs ++ steps_of f.low → AreWhole mid → EndsWithin f.room xs f.low mid
 low_ends n xs p rest mid f e h = record { steps = e; whole = h; room = f.below_room }
 
 -- ---- the routes that are stored
 
-module _ {B : Type 0} (string : B → List Bool) (b : List Bool) (s k : Option ℕ) (is_new : Bool) (n : ℕ) (xs : List Step) (p : Tree) (x : Step) (left mid after old : Steps) (r0 r1 r2 r3 r4 : List (B × Option ℕ))
-    (same : step_best x ≡ best p) (e : k ≡ passed_on (Of (step_best x)) s) (f : is_new ≡ not (holds (step_best x) s)) (last : strings string r4 ≡ cond is_new ((b, k) ∷ []) [] ++ strings string r3) where
+module _ {B : Type 0} (string : B → List Bool) (b : List Bool) (s k : Option ℕ) (is_new : Bool) (n : ℕ) (xs : List Step) (p : LeastPlan) (x : Step) (left mid after old : Steps) (r0 r1 r2 r3 r4 : List (B × Option ℕ))
+    (same : step_best x ≡ plan_best p) (e : k ≡ passed_on (Of (step_best x)) s) (f : is_new ≡ not (holds (step_best x) s)) (last : strings string r4 ≡ cond is_new ((b, k) ∷ []) [] ++ strings string r3) where
   -- what is stored for the plan q
-  stored : (q : Tree) (parts : Option ℕ → List (List Bool × Option ℕ)) → p ≡ q → routes_of q s ≡ with_best (best q) parts s → strings string r3 ≡ within b (parts k) ++ strings string r0 → strings string r4 ≡ within b (routes_of p s) ++ strings string r0
+  stored : (q : LeastPlan) (parts : Option ℕ → List (List Bool × Option ℕ)) → p ≡ q → plan_routes q s ≡ with_best (plan_best q) parts s → strings string r3 ≡ within b (parts k) ++ strings string r0 → strings string r4 ≡ within b (plan_routes p s) ++ strings string r0
   stored q parts i j h =
       cut_stored b (step_best x) parts s k is_new (strings string r0) (strings string r3) (strings string r4) e f h last
-      ∙ ap (λ t. within b t ++ strings string r0) (ap (λ ks. with_best ks parts s) (same ∙ ap best i) ∙ sym j ∙ ap (λ u. routes_of u s) (sym i))
+      ∙ ap (λ t. within b t ++ strings string r0) (ap (λ ks. with_best ks parts s) (same ∙ ap plan_best i) ∙ sym j ∙ ap (λ u. plan_routes u s) (sym i))
 
   pub leaf_stores : (d : (j : ℕ) × (p ≡ Leaf j) × (steps_in left ≡ xs)) → AreWhole left → r3 ≡ r0 → Stores string b s xs p r0 r4 old left
   leaf_stores d whole none = record { steps = d.2; whole = whole; routes = stored (Leaf d.0) (λ i. []) d.1 refl (ap (strings string) none) }
@@ -143,10 +143,10 @@ module _ {B : Type 0} (string : B → List Bool) (b : List Bool) (s k : Option �
   fork_stores d q1 q0 g h above lower = record {
     steps = lower.steps;
     whole = lower.whole;
-    routes = stored (Fork d.hops d.low d.high) (λ i. inside false (routes_of d.low i) ++ inside true (routes_of d.high i)) d.is refl (
-        lower.routes ∙ ap₂ (λ t u. t ++ u) (ap (λ q. within q (routes_of d.low k)) h) (above.routes ∙ ap (λ q. within q (routes_of d.high k) ++ strings string r0) g)
-        ∙ sym (append_assoc (within (b ++ false ∷ []) (routes_of d.low k)) (within (b ++ true ∷ []) (routes_of d.high k)) (strings string r0))
-        ∙ ap (λ t. t ++ strings string r0) (sym (within-halves b (routes_of d.low k) (routes_of d.high k))));
+    routes = stored (Fork d.hops d.low d.high) (λ i. inside false (plan_routes d.low i) ++ inside true (plan_routes d.high i)) d.is refl (
+        lower.routes ∙ ap₂ (λ t u. t ++ u) (ap (λ q. within q (plan_routes d.low k)) h) (above.routes ∙ ap (λ q. within q (plan_routes d.high k) ++ strings string r0) g)
+        ∙ sym (append_assoc (within (b ++ false ∷ []) (plan_routes d.low k)) (within (b ++ true ∷ []) (plan_routes d.high k)) (strings string r0))
+        ∙ ap (λ t. t ++ strings string r0) (sym (within-halves b (plan_routes d.low k) (plan_routes d.high k))));
   }
 
   pub skip_stores : (way : List Bool) (d : Skipped way n xs p left) (is_upper u v : Bool) (q1 q0 q : List Bool) → is_upper ≡ d.half → u ≡ (is_some k && not is_upper) → v ≡ (is_some k && is_upper) → q1 ≡ b ++ true ∷ [] → q0 ≡ b ++ false ∷ [] → q ≡ b ++ way
@@ -154,8 +154,8 @@ module _ {B : Type 0} (string : B → List Bool) (b : List Bool) (s k : Option �
   skip_stores way d is_upper u v q1 q0 q half above below g h i upper inner lower = record {
     steps = inner.steps;
     whole = inner.whole;
-    routes = stored (Skip d.hops d.half d.path d.inner) (λ j. beside d.half j (within d.path (routes_of d.inner j))) d.is refl
-        (beside_stored b q1 q0 q d.half d.path k (routes_of d.inner k) (strings string r0) (strings string r1) (strings string r2) (strings string r3) g h (i ∙ ap (λ t. b ++ t) d.turns)
+    routes = stored (Skip d.hops d.half d.path d.inner) (λ j. beside d.half j (within d.path (plan_routes d.inner j))) d.is refl
+        (beside_stored b q1 q0 q d.half d.path k (plan_routes d.inner k) (strings string r0) (strings string r1) (strings string r2) (strings string r3) g h (i ∙ ap (λ t. b ++ t) d.turns)
         (upper ∙ ap (λ c. cond {A = List (List Bool × Option ℕ)} c ((q1, None) ∷ []) [] ++ strings string r0) (above ∙ ap (λ c. is_some k && not c) half)) inner.routes
         (lower ∙ ap (λ c. cond {A = List (List Bool × Option ℕ)} c ((q0, None) ∷ []) [] ++ strings string r2) (below ∙ ap (λ c. is_some k && c) half)));
   }

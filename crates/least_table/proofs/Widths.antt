@@ -1,11 +1,11 @@
 -- Plans of blocks, by those of their halves.
 use Rattle.std.proofs.Common.{◌≡◌, ℕ, suc, Bool, true, false, not, List, [], ◌∷◌, None, Option, refl, arith}
 use Rattle.least_table.specs.BestHops.{Of, AreMerged}
-use Rattle.least_table.specs.InnerPlans.{OfHalf, OfHalves}
-use Rattle.least_table.specs.InnerTrees.{Tree, Fork, Skip, NoHops, NoneOutside, best}
+use Rattle.least_table.specs.InnerPlans.{OfHalf, JoinsHalves}
+use Rattle.least_table.specs.InnerTrees.{LeastPlan, Fork, Skip, NoHops, NoneOutside, plan_best}
 use Rattle.least_table.specs.Tables.{half_of}
 
-pub forked : (p q : Tree) (hops : List (Option ℕ)) → AreMerged (Of (best p)) (Of (best q)) (Of hops) → OfHalves p q (Fork hops p q)
+pub forked : (p q : LeastPlan) (hops : List (Option ℕ)) → AreMerged (Of (plan_best p)) (Of (plan_best q)) (Of hops) → JoinsHalves p q (Fork hops p q)
 forked p q hops m v h l r = (v, refl, m, l, r)
 
 -- the addresses outside a smaller block, by those in its half and those in the other half
@@ -17,9 +17,9 @@ outside false ds v w h e inner other (false ∷ x) l f = inner x (omega (arith, 
 outside false ds v w h e inner other (true ∷ x) l f = other x (omega (arith, e, l))
 
 -- one half has no hop
-pub lone : (upper : Bool) (p : Tree) (hops : List (Option ℕ)) → AreMerged (Of (None ∷ [])) (Of (best p)) (Of hops) → OfHalf upper p (Skip hops upper [] p)
+pub lone : (upper : Bool) (p : LeastPlan) (hops : List (Option ℕ)) → AreMerged (Of (None ∷ [])) (Of (plan_best p)) (Of hops) → OfHalf upper p (Skip hops upper [] p)
 lone upper p hops m v h i none = (v, omega arith, m, outside upper [] v (suc v) h refl (λ x l f. cc) none, i)
 
 -- and the other half is cut into a smaller block
-pub longer : (upper b : Bool) (ds : List Bool) (hops : List (Option ℕ)) (p : Tree) → OfHalf upper (Skip hops b ds p) (Skip (None ∷ []) upper (b ∷ ds) p)
+pub longer : (upper b : Bool) (ds : List Bool) (hops : List (Option ℕ)) (p : LeastPlan) → OfHalf upper (Skip hops b ds p) (Skip (None ∷ []) upper (b ∷ ds) p)
 longer upper b ds hops p v h i none = (i.0, omega (arith, i.1), refl, outside upper (b ∷ ds) v (suc v) h refl i.3 none, i.4)

@@ -10,30 +10,30 @@ use Rattle.least_table.specs.declared.plan.Best.{Best}
 use Rattle.least_table.specs.declared.plan.Best.TheVariants as bests
 
 -- the step that is stored in this way
-abbrev pub step_of : List (List (Option ℕ)) → Packed → Step
-step_of sets (Leaf k) = Uncut k
-step_of sets (Hop n x k) = Cut (digits n x) (Some k ∷ [])
-step_of sets (NoHop n x) = Cut (digits n x) (None ∷ [])
-step_of sets (HopOrNone n x k) = Cut (digits n x) (None ∷ Some k ∷ [])
-step_of sets (Set n x at) = Cut (digits n x) (set_at sets at)
+abbrev pub stored_step : List (List (Option ℕ)) → Packed → Step
+stored_step sets (Leaf k) = Uncut k
+stored_step sets (Hop n x k) = Cut (digits n x) (Some k ∷ [])
+stored_step sets (NoHop n x) = Cut (digits n x) (None ∷ [])
+stored_step sets (HopOrNone n x k) = Cut (digits n x) (None ∷ Some k ∷ [])
+stored_step sets (Set n x at) = Cut (digits n x) (set_at sets at)
 
 -- the set that the step refers to is in the list of sets, and its bits are no more than its levels
-abbrev pub IsKept : List (List (Option ℕ)) → Packed → Type 0
-IsKept sets (Leaf k) = ⊤
-IsKept sets (Hop n x k) = (n ≤ 16) × (x < 2 ^ n)
-IsKept sets (NoHop n x) = (n ≤ 16) × (x < 2 ^ n)
-IsKept sets (HopOrNone n x k) = (n ≤ 16) × (x < 2 ^ n)
-IsKept sets (Set n x at) = (n ≤ 16) × (x < 2 ^ n) × HasSet sets at
+abbrev pub IsKeptStep : List (List (Option ℕ)) → Packed → Type 0
+IsKeptStep sets (Leaf k) = ⊤
+IsKeptStep sets (Hop n x k) = (n ≤ 16) × (x < 2 ^ n)
+IsKeptStep sets (NoHop n x) = (n ≤ 16) × (x < 2 ^ n)
+IsKeptStep sets (HopOrNone n x k) = (n ≤ 16) × (x < 2 ^ n)
+IsKeptStep sets (Set n x at) = (n ≤ 16) × (x < 2 ^ n) × HasSet sets at
 
 abbrev pub AreKept : List (List (Option ℕ)) → List Packed → Type 0
 AreKept sets [] = ⊤
-AreKept sets (x ∷ xs) = IsKept sets x × AreKept sets xs
+AreKept sets (x ∷ xs) = IsKeptStep sets x × AreKept sets xs
 
 abbrev pub AreWhole : Steps → Type 0
 AreWhole s = AreKept s.sets s.steps
 
 abbrev pub steps_in : Steps → List Step
-steps_in s = map (step_of s.sets) s.steps
+steps_in s = map (stored_step s.sets) s.steps
 
 -- the best inherited hops of the block of the step at an index
 abbrev pub best_at : Steps → ℕ → List (Option ℕ)
@@ -45,7 +45,7 @@ pub record Grows (old new : Steps) (xs : List Step) : Type 0 where
   pub whole : AreWhole new
 
 -- the hops of a set
-abbrev pub hops_in : Best → List (Option ℕ)
-hops_in (bests.One k) = k ∷ []
-hops_in (bests.Two ks) = ks
-hops_in (bests.Several ks) = ks.now
+abbrev pub best_in : Best → List (Option ℕ)
+best_in (bests.One k) = k ∷ []
+best_in (bests.Two ks) = ks
+best_in (bests.Several ks) = ks.now

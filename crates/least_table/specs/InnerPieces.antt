@@ -17,9 +17,9 @@ BeforeAll a [] = ⊤
 BeforeAll a (p ∷ ps) = (before a p.0 ≡ true) × BeforeAll a ps
 
 -- the pieces are disjoint and ascending
-abbrev pub IsAscending : List (List Bool × ℕ) → Type 0
-IsAscending [] = ⊤
-IsAscending (p ∷ ps) = BeforeAll p.0 ps × IsAscending ps
+abbrev pub AreRisingPieces : List (List Bool × ℕ) → Type 0
+AreRisingPieces [] = ⊤
+AreRisingPieces (p ∷ ps) = BeforeAll p.0 ps × AreRisingPieces ps
 
 -- the pieces without their first n bits
 abbrev pub beyond : ℕ → List (List Bool × ℕ) → List (List Bool × ℕ)

@@ -1,31 +1,31 @@
 -- The steps of a planner: plans of lower halves, and after them the plan of the block of the last piece.
 use Rattle.std.specs.Prelude.{◌≡◌, ℕ, suc, ◌<◌, ◌≤◌, Bool, true, false, List, [], ◌∷◌, ◌++◌, length, take, reverse, slice_index_or, MatchOption, ⊤}
 use Rattle.least_table.specs.InnerPacked.{AreWhole, steps_in}
-use Rattle.least_table.specs.InnerPlans.{Ends, IsPlanOf}
+use Rattle.least_table.specs.InnerPlans.{EndsWithPlan, IsPlanOf}
 use Rattle.least_table.specs.InnerRising.{IsRising}
 use Rattle.least_table.specs.InnerSteps.{Step, steps_of}
-use Rattle.least_table.specs.InnerTrees.{Tree, best}
+use Rattle.least_table.specs.InnerTrees.{LeastPlan, plan_best}
 use Rattle.least_table.specs.declared.plan.Steps.{Steps}
 use Rattle.least_table.specs.declared.planner.Lower.{Lower}
 use Rattle.least_table.specs.declared.planner.Planner.{Planner}
 
 module _ (w : ℕ) where
   -- after the steps xs come those of a plan for these pieces, of the block of the first d bits of a
-  pub record Plans (a : List Bool) (d : ℕ) (ps : List (List Bool × ℕ)) (xs : List Step) (s : Steps) : Type 0 where
-    pub plan : Tree
-    pub ends : Ends xs plan s
+  pub record HasPlan (a : List Bool) (d : ℕ) (ps : List (List Bool × ℕ)) (xs : List Step) (s : Steps) : Type 0 where
+    pub plan : LeastPlan
+    pub ends : EndsWithPlan xs plan s
     pub is : IsPlanOf w d (take d a) ps plan
 
   -- the last steps are a plan of a lower half; the upper half beside it contains the block a
   pub record IsLower (a : List Bool) (o : Lower) (ps : List (List Bool × ℕ)) (xs : List Step) : Type 0 where
-    pub plan : Tree
+    pub plan : LeastPlan
     pub pieces : List (List Bool × ℕ)
     pub others : List (List Bool × ℕ)
     pub before : List Step
     pub all : ps ≡ others ++ pieces
     pub steps : xs ≡ before ++ steps_of plan
     pub last : suc o.last ≡ length xs
-    pub rising : IsRising (best plan)
+    pub rising : IsRising (plan_best plan)
     pub is : IsPlanOf w (suc o.depth) (take o.depth a ++ false ∷ []) pieces plan
     pub upper : slice_index_or a o.depth false ≡ true
 
@@ -42,7 +42,7 @@ module _ (w : ℕ) where
     pub before : List Step
     pub all : ps ≡ others ++ pieces
     pub lower : AreLowers (reverse lowers) a e others before
-    pub plans : Plans a d pieces before s
+    pub plans : HasPlan a d pieces before s
 
   -- the pieces so far; the last one is the block a
   pub record EndAt (a : List Bool) (ps : List (List Bool × ℕ)) (lowers : List Lower) (s : Steps) : Type 0 where
@@ -57,6 +57,6 @@ module _ (w : ℕ) where
   HasPlanned p ps = MatchOption p.last ((ps ≡ []) × (p.lowers.items ≡ []) × (steps_in p.steps ≡ []) × AreWhole p.steps) (λ a. EndAt a ps p.lowers.items p.steps)
 
 -- the innermost block has fewer than d bits
-abbrev pub IsInside : ℕ → List Lower → Type 0
-IsInside d [] = ⊤
-IsInside d (o ∷ os) = o.depth < d
+abbrev pub IsDeeper : ℕ → List Lower → Type 0
+IsDeeper d [] = ⊤
+IsDeeper d (o ∷ os) = o.depth < d

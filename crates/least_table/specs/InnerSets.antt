@@ -14,16 +14,16 @@ abbrev pub set_in : List (Option ℕ) → ℕ → List (Option ℕ)
 set_in block place = take (size_in block place) (drop (suc place) block)
 
 -- the block of a set
-abbrev pub block_of : List (List (Option ℕ)) → ℕ → List (Option ℕ)
-block_of sets at = slice_index_or sets (at / 512) []
+abbrev pub block_of_set : List (List (Option ℕ)) → ℕ → List (Option ℕ)
+block_of_set sets at = slice_index_or sets (at / 512) []
 
 -- there is a complete set with this identifier
 abbrev pub HasSet : List (List (Option ℕ)) → ℕ → Type 0
-HasSet sets at = suc (at % 512) + size_in (block_of sets at) (at % 512) ≤ length (block_of sets at)
+HasSet sets at = suc (at % 512) + size_in (block_of_set sets at) (at % 512) ≤ length (block_of_set sets at)
 
 -- the hops of the set with this identifier
 abbrev pub set_at : List (List (Option ℕ)) → ℕ → List (Option ℕ)
-set_at sets at = set_in (block_of sets at) (at % 512)
+set_at sets at = set_in (block_of_set sets at) (at % 512)
 
 -- each old set is unchanged and has the same identifier
 abbrev pub KeepsSets : List (List (Option ℕ)) → List (List (Option ℕ)) → Type 0

@@ -6,8 +6,8 @@ use Rattle.std.specs.declared.vec.Vec.{Vec}
 
 module _ {X : Type 0} where
   -- the items of the blocks, block by block
-  abbrev pub joined : List (Vec X Global) → List X
-  joined = flat_map (λ b. b.items)
+  abbrev pub joined_blocks : List (Vec X Global) → List X
+  joined_blocks = flat_map (λ b. b.items)
 
   -- each block has exactly `size` items
   abbrev pub AreFull : ℕ → List (Vec X Global) → Type 0

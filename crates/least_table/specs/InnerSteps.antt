@@ -1,6 +1,6 @@
 -- The steps of a plan.
 use Rattle.std.specs.Prelude.{◌≡◌, ℕ, ◌<◌, ◌^◌, Bool, List, [], ◌∷◌, ◌++◌, Option, Some, None, All, IfSome, IsTrue}
-use Rattle.least_table.specs.InnerTrees.{Tree, Leaf, Fork, Skip}
+use Rattle.least_table.specs.InnerTrees.{LeastPlan, Leaf, Fork, Skip}
 
 -- A block whose addresses all have one hop. A block that is cut, and its best inherited hops: into halves if the path is empty, else into
 -- the smaller block on the path and the addresses outside it, which have no hop.
@@ -19,13 +19,13 @@ path_in (Uncut k) = None
 path_in (Cut ds hops) = Some ds
 
 -- the step of the block itself
-abbrev pub top : Tree → Step
+abbrev pub top : LeastPlan → Step
 top (Leaf k) = Uncut k
 top (Fork hops l r) = Cut [] hops
 top (Skip hops b ds t) = Cut (b ∷ ds) hops
 
 -- all steps: those of the lower half or the smaller block, those of the upper half, then that of the block
-abbrev pub steps_of : Tree → List Step
+abbrev pub steps_of : LeastPlan → List Step
 steps_of (Leaf k) = Uncut k ∷ []
 steps_of (Fork hops l r) = (steps_of l ++ steps_of r) ++ Cut [] hops ∷ []
 steps_of (Skip hops b ds t) = steps_of t ++ Cut (b ∷ ds) hops ∷ []

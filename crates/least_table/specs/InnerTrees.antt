@@ -2,21 +2,21 @@
 use Rattle.std.specs.Prelude.{◌≡◌, ℕ, suc, ◌+◌, Bool, true, false, cond, List, [], ◌∷◌, ◌++◌, length, Option, Some, None, ⊤}
 use Rattle.ipnet_blocks.specs.BitStrings.{begins}
 use Rattle.least_table.specs.Tables.{half_of, inner_of, inside, within}
-use Rattle.least_table.specs.HopSets.{holds, first_of}
+use Rattle.least_table.specs.HopSets.{holds, first_hop}
 use Rattle.least_table.specs.BestHops.{Of, AreMerged}
 
 -- A block whose addresses all have one hop. A block cut into halves, and its best inherited hops. A block that is cut into a smaller
 -- block, and addresses that have no hop: its best inherited hops, the half that contains the smaller block, and the path from there.
-pub data Tree : Type 0 where
-  Leaf : ℕ → Tree
-  Fork : List (Option ℕ) → Tree → Tree → Tree
-  Skip : List (Option ℕ) → Bool → List Bool → Tree → Tree
+pub data LeastPlan : Type 0 where
+  Leaf : ℕ → LeastPlan
+  Fork : List (Option ℕ) → LeastPlan → LeastPlan → LeastPlan
+  Skip : List (Option ℕ) → Bool → List Bool → LeastPlan → LeastPlan
 
 -- the best inherited hops of the block
-abbrev pub best : Tree → List (Option ℕ)
-best (Leaf k) = Some k ∷ []
-best (Fork hops l r) = hops
-best (Skip hops b ds t) = hops
+abbrev pub plan_best : LeastPlan → List (Option ℕ)
+plan_best (Leaf k) = Some k ∷ []
+plan_best (Fork hops l r) = hops
+plan_best (Skip hops b ds t) = hops
 
 -- no address of the block has a hop
 abbrev pub NoHops : ℕ → (List Bool → Option ℕ) → Type 0
@@ -32,10 +32,10 @@ AreAbove below [] hops = AreMerged (Of (None ∷ [])) (Of below) (Of hops)
 AreAbove below (c ∷ ds) hops = hops ≡ None ∷ []
 
 -- the tree is a plan of a block of w free bits whose addresses have the hops h
-abbrev pub IsPlan : ℕ → (List Bool → Option ℕ) → Tree → Type 0
-IsPlan w h (Leaf k) = (x : List Bool) → length x ≡ w → h x ≡ Some k
-IsPlan w h (Fork hops l r) = (v : ℕ) × (w ≡ suc v) × AreMerged (Of (best l)) (Of (best r)) (Of hops) × IsPlan v (half_of false h) l × IsPlan v (half_of true h) r
-IsPlan w h (Skip hops b ds t) = (v : ℕ) × (w ≡ suc (length ds + v)) × AreAbove (best t) ds hops × NoneOutside w h (b ∷ ds) × IsPlan v (inner_of (b ∷ ds) h) t
+abbrev pub IsLeastPlan : ℕ → (List Bool → Option ℕ) → LeastPlan → Type 0
+IsLeastPlan w h (Leaf k) = (x : List Bool) → length x ≡ w → h x ≡ Some k
+IsLeastPlan w h (Fork hops l r) = (v : ℕ) × (w ≡ suc v) × AreMerged (Of (plan_best l)) (Of (plan_best r)) (Of hops) × IsLeastPlan v (half_of false h) l × IsLeastPlan v (half_of true h) r
+IsLeastPlan w h (Skip hops b ds t) = (v : ℕ) × (w ≡ suc (length ds + v)) × AreAbove (plan_best t) ds hops × NoneOutside w h (b ∷ ds) × IsLeastPlan v (inner_of (b ∷ ds) h) t
 
 -- the routes of a block without hops that inherits s
 abbrev pub dropped : Option ℕ → List (List Bool × Option ℕ)
@@ -49,16 +49,16 @@ beside false s t = inside false t ++ inside true (dropped s)
 
 -- the routes of a block with these best hops if it inherits s, by those of its parts for each hop that they inherit
 abbrev pub with_best : List (Option ℕ) → (Option ℕ → List (List Bool × Option ℕ)) → Option ℕ → List (List Bool × Option ℕ)
-with_best hops parts s = cond (holds hops s) (parts s) (([], first_of hops) ∷ parts (first_of hops))
+with_best hops parts s = cond (holds hops s) (parts s) (([], first_hop hops) ∷ parts (first_hop hops))
 
 -- the routes of the tree if its block inherits s
-abbrev pub routes_of : Tree → Option ℕ → List (List Bool × Option ℕ)
-routes_of (Leaf k) s = with_best (Some k ∷ []) (λ i. []) s
-routes_of (Fork hops l r) s = with_best hops (λ i. inside false (routes_of l i) ++ inside true (routes_of r i)) s
-routes_of (Skip hops b ds t) s = with_best hops (λ i. beside b i (within ds (routes_of t i))) s
+abbrev pub plan_routes : LeastPlan → Option ℕ → List (List Bool × Option ℕ)
+plan_routes (Leaf k) s = with_best (Some k ∷ []) (λ i. []) s
+plan_routes (Fork hops l r) s = with_best hops (λ i. inside false (plan_routes l i) ++ inside true (plan_routes r i)) s
+plan_routes (Skip hops b ds t) s = with_best hops (λ i. beside b i (within ds (plan_routes t i))) s
 
 -- the tree cuts a block of w bits no further than into single addresses
-abbrev pub Fits : ℕ → Tree → Type 0
-Fits w (Leaf k) = ⊤
-Fits w (Fork hops l r) = (v : ℕ) × (w ≡ suc v) × Fits v l × Fits v r
-Fits w (Skip hops b ds t) = (v : ℕ) × (w ≡ suc (length ds + v)) × Fits v t
+abbrev pub PlanFits : ℕ → LeastPlan → Type 0
+PlanFits w (Leaf k) = ⊤
+PlanFits w (Fork hops l r) = (v : ℕ) × (w ≡ suc v) × PlanFits v l × PlanFits v r
+PlanFits w (Skip hops b ds t) = (v : ℕ) × (w ≡ suc (length ds + v)) × PlanFits v t

@@ -8,9 +8,9 @@ abbrev pub AreDisjoint : List (List Bool × ℕ) → Type 0
 AreDisjoint = AllPairs (λ p q. (bits_cmp p.0 q.0 ≡ Less) × (begins p.0 q.0 ≡ false))
 
 -- the hop of the piece that contains x, or none if no piece does
-abbrev pub hop_at : List (List Bool × ℕ) → List Bool → Option ℕ
-hop_at [] x = None
-hop_at (p ∷ ps) x = cond (begins p.0 x) (Some p.1) (hop_at ps x)
+abbrev pub piece_hop : List (List Bool × ℕ) → List Bool → Option ℕ
+piece_hop [] x = None
+piece_hop (p ∷ ps) x = cond (begins p.0 x) (Some p.1) (piece_hop ps x)
 
 -- the prefixes as bit strings
 abbrev pub strings : {P K : Type 0} → (P → List Bool) → List (P × K) → List (List Bool × K)

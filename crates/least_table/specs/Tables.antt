@@ -8,42 +8,42 @@ Absent b [] = ⊤
 Absent b (r ∷ t) = (r.0 ≢ b) × Absent b t
 
 -- a finite map from blocks of at most w bits to hops; `None` is `drop`
-abbrev pub IsTable : ℕ → List (List Bool × Option ℕ) → Type 0
-IsTable w [] = ⊤
-IsTable w (r ∷ t) = (length r.0 ≤ w) × Absent r.0 t × IsTable w t
+abbrev pub IsBitTable : ℕ → List (List Bool × Option ℕ) → Type 0
+IsBitTable w [] = ⊤
+IsBitTable w (r ∷ t) = (length r.0 ≤ w) × Absent r.0 t × IsBitTable w t
 
 -- the longer of a route and another, if there is another
-abbrev pub longer : List Bool × Option ℕ → Option (List Bool × Option ℕ) → Option (List Bool × Option ℕ)
-longer r None = Some r
-longer r (Some q) = cond (nat_lt (length r.0) (length q.0)) (Some q) (Some r)
+abbrev pub longer_route : List Bool × Option ℕ → Option (List Bool × Option ℕ) → Option (List Bool × Option ℕ)
+longer_route r None = Some r
+longer_route r (Some q) = cond (nat_lt (length r.0) (length q.0)) (Some q) (Some r)
 
 -- the longest route of t whose block contains x
-abbrev pub longest : List (List Bool × Option ℕ) → List Bool → Option (List Bool × Option ℕ)
-longest [] x = None
-longest (r ∷ t) x = cond (begins r.0 x) (longer r (longest t x)) (longest t x)
+abbrev pub longest_route : List (List Bool × Option ℕ) → List Bool → Option (List Bool × Option ℕ)
+longest_route [] x = None
+longest_route (r ∷ t) x = cond (begins r.0 x) (longer_route r (longest_route t x)) (longest_route t x)
 
 -- the hop of a match, or s if there is none
-abbrev pub hop_of : Option ℕ → Option (List Bool × Option ℕ) → Option ℕ
-hop_of s None = s
-hop_of s (Some r) = r.1
+abbrev pub matched_hop : Option ℕ → Option (List Bool × Option ℕ) → Option ℕ
+matched_hop s None = s
+matched_hop s (Some r) = r.1
 
 -- the hop of x if it inherits s
-abbrev pub hop_under : Option ℕ → List (List Bool × Option ℕ) → List Bool → Option ℕ
-hop_under s t x = hop_of s (longest t x)
+abbrev pub hop_inheriting : Option ℕ → List (List Bool × Option ℕ) → List Bool → Option ℕ
+hop_inheriting s t x = matched_hop s (longest_route t x)
 
 -- the hop of x
-abbrev pub hop : List (List Bool × Option ℕ) → List Bool → Option ℕ
-hop t x = hop_under None t x
+abbrev pub table_hop : List (List Bool × Option ℕ) → List Bool → Option ℕ
+table_hop t x = hop_inheriting None t x
 
 -- t is a table over w bits in which each address has the hop that h gives, if the block inherits s
-pub record Gives (w : ℕ) (h : List Bool → Option ℕ) (s : Option ℕ) (t : List (List Bool × Option ℕ)) : Type 0 where
-  pub table : IsTable w t
-  pub same : (x : List Bool) → length x ≡ w → hop_under s t x ≡ h x
+pub record GivesHops (w : ℕ) (h : List Bool → Option ℕ) (s : Option ℕ) (t : List (List Bool × Option ℕ)) : Type 0 where
+  pub table : IsBitTable w t
+  pub same : (x : List Bool) → length x ≡ w → hop_inheriting s t x ≡ h x
 
 -- t is a table with the hops h, and no table with these hops has fewer routes
-pub record IsLeast (w : ℕ) (h : List Bool → Option ℕ) (t : List (List Bool × Option ℕ)) : Type 0 where
-  pub gives : Gives w h None t
-  pub fewest : (u : List (List Bool × Option ℕ)) → Gives w h None u → length t ≤ length u
+pub record IsLeastTable (w : ℕ) (h : List Bool → Option ℕ) (t : List (List Bool × Option ℕ)) : Type 0 where
+  pub gives : GivesHops w h None t
+  pub fewest : (u : List (List Bool × Option ℕ)) → GivesHops w h None u → length t ≤ length u
 
 -- the hops of the half of a block that has the bit b first
 abbrev pub half_of : Bool → (List Bool → Option ℕ) → List Bool → Option ℕ

@@ -3,10 +3,10 @@ use Rattle.std.specs.Prelude.{ℕ, Bool, true, false, List, [], ◌∷◌, ◌++
 use Rattle.least_table.specs.Tables.{inside}
 
 -- the routes without that of the whole block
-abbrev pub bare : List (List Bool × Option ℕ) → List (List Bool × Option ℕ)
-bare [] = []
-bare (([], k) ∷ t) = bare t
-bare ((b ∷ c, k) ∷ t) = (b ∷ c, k) ∷ bare t
+abbrev pub without_own : List (List Bool × Option ℕ) → List (List Bool × Option ℕ)
+without_own [] = []
+without_own (([], k) ∷ t) = without_own t
+without_own ((b ∷ c, k) ∷ t) = (b ∷ c, k) ∷ without_own t
 
 -- a table with this route of the whole block, or with none
 abbrev pub with_own : Option (Option ℕ) → List (List Bool × Option ℕ) → List (List Bool × Option ℕ)

@@ -1,7 +1,7 @@
 //! Sets of hops, as ascending lists: no hop first, and then numbers.
 ghost use Rattle.std.specs.Prelude.{◌≡◌, ◌∷◌, [], IfOk};
 ghost use Rattle.least_table.specs.BestHops.{Of, AreMerged};
-ghost use Rattle.least_table.specs.HopSets.{same_hop, holds, first_of};
+ghost use Rattle.least_table.specs.HopSets.{is_same_hop, holds, first_hop};
 ghost use Rattle.least_table.specs.InnerHops.{members};
 ghost use Rattle.least_table.specs.InnerRising.{is_less, IsRising, AreCommon, AreAll};
 
@@ -45,7 +45,7 @@ impl Hops {
 
 /// Whether two hops are the same.
 pub fn is_same(a: Option<u32>, b: Option<u32>) -> bool
-    ensures { result ≡ same_hop a b }
+    ensures { result ≡ is_same_hop a b }
 {
     match (a, b) {
         (None, None) => true,
@@ -56,7 +56,7 @@ pub fn is_same(a: Option<u32>, b: Option<u32>) -> bool
 
 /// The first of the hops, or none if the list is empty.
 pub fn first(hops: &[Option<u32>]) -> Option<u32>
-    ensures { result ≡ first_of hops.now }
+    ensures { result ≡ first_hop hops.now }
 {
     match hops {
         [hop, ..] => *hop,

@@ -3,12 +3,12 @@ ghost use Rattle.std.specs.Prelude.{◌≡◌, ◌-◌, ◌<◌, ◌≤◌, ◌+
 ghost use Rattle.least_table.specs.BestHops.{Of, AreMerged, passed_on};
 ghost use Rattle.least_table.specs.HopSets.{holds};
 ghost use Rattle.least_table.specs.InnerHops.{members};
-ghost use Rattle.least_table.specs.InnerPacked.{AreWhole, Grows, IsKept, best_at, hops_in, step_of, steps_in};
-ghost use Rattle.least_table.specs.InnerPlanners.{Plans};
-ghost use Rattle.least_table.specs.InnerPlans.{Ends, EndsIn, OfHalf, OfHalves, Stores};
+ghost use Rattle.least_table.specs.InnerPacked.{AreWhole, Grows, IsKeptStep, best_at, best_in, stored_step, steps_in};
+ghost use Rattle.least_table.specs.InnerPlanners.{HasPlan};
+ghost use Rattle.least_table.specs.InnerPlans.{EndsWithPlan, EndsWithin, OfHalf, JoinsHalves, Stores};
 ghost use Rattle.least_table.specs.InnerRising.{IsRising};
 ghost use Rattle.least_table.specs.InnerSteps.{AreNetworks, Cut, IsLonger, Step, Uncut, path_in, step_best, steps_of};
-ghost use Rattle.least_table.specs.InnerTrees.{Tree, best};
+ghost use Rattle.least_table.specs.InnerTrees.{LeastPlan, plan_best};
 
 use crate::bits::bit;
 use crate::hops::{Hops, first, is_among, merge};
@@ -43,8 +43,8 @@ enum Packed {
 
 /// The path from a block to the smaller block that its step cuts it to: empty if the step cuts it into halves. `None` if it isn't cut.
 fn path_of_step(step: Packed) -> Option<SkippedBits>
-    requires { (sets : List (List (Option ℕ))) × IsKept sets step }
-    ensures { (sets : List (List (Option ℕ))) → result ≡ path_in (step_of sets step) }
+    requires { (sets : List (List (Option ℕ))) × IsKeptStep sets step }
+    ensures { (sets : List (List (Option ℕ))) → result ≡ path_in (stored_step sets step) }
 {
     match step {
         Packed::Leaf(_) => None,
@@ -58,8 +58,8 @@ fn path_of_step(step: Packed) -> Option<SkippedBits>
 /// The path from the parent of a block to the smaller block that the block's step cuts it to. `None` if there is no smaller block, or if
 /// the path would have too many levels.
 fn longer(step: Packed, is_upper: bool) -> Option<SkippedBits>
-    requires { (sets : List (List (Option ℕ))) × IsKept sets step }
-    ensures { IfSome result (λ turns. (sets : List (List (Option ℕ))) → IsLonger is_upper (step_of sets step) turns) }
+    requires { (sets : List (List (Option ℕ))) × IsKeptStep sets step }
+    ensures { IfSome result (λ turns. (sets : List (List (Option ℕ))) → IsLonger is_upper (stored_step sets step) turns) }
 {
     let turns = path_of_step(step)?;
     if turns.is_empty() {
@@ -89,7 +89,7 @@ enum Best<'a> {
 impl<'a> Best<'a> {
     /// Returns the hops, ascending.
     fn as_slice(&self) -> &[Option<u32>]
-        ensures { result.now ≡ hops_in self.now }
+        ensures { result.now ≡ best_in self.now }
     {
         match self {
             Best::One(hop) => slice::from_ref(hop),
@@ -121,7 +121,7 @@ impl Steps {
 
     /// The index of the last step.
     pub(crate) fn last(&self) -> usize
-        requires { (xs : List Step) × (p : Tree) × Ends xs p self.now }
+        requires { (xs : List Step) × (p : LeastPlan) × EndsWithPlan xs p self.now }
         ensures { suc result ≡ length (steps_in self.now) }
     {
         self.steps.len() - 1
@@ -130,8 +130,8 @@ impl Steps {
     /// Appends a step.
     fn push(&mut self, step: Packed) -> Result<(), AllocError>
         requires whole { AreWhole self.old }
-        requires kept { IsKept self.old.sets step }
-        ensures { OnOk result (Grows self.old self.new (step_of self.old.sets step ∷ [])) }
+        requires kept { IsKeptStep self.old.sets step }
+        ensures { OnOk result (Grows self.old self.new (stored_step self.old.sets step ∷ [])) }
     {
         self.steps.push(step)
     }
@@ -168,8 +168,8 @@ impl Steps {
 
     /// The best inherited hops of the block of a step.
     fn best(&self, step: Packed) -> Best<'_>
-        requires { IsKept self.now.sets step }
-        ensures { hops_in result ≡ step_best (step_of self.now.sets step) }
+        requires { IsKeptStep self.now.sets step }
+        ensures { best_in result ≡ step_best (stored_step self.now.sets step) }
     {
         match step {
             Packed::Leaf(hop) | Packed::Hop(_, _, hop) => Best::One(Some(hop)),
@@ -197,8 +197,8 @@ impl Steps {
     /// Combines the plans of both halves of a block into one plan. The last step of the lower half's plan is at index `low`, and that of
     /// the upper half's plan is the last step.
     pub(crate) fn join(&mut self, alloc: Global, low: usize) -> Result<(), AllocError>
-        requires { (xs : List Step) × (ys : List Step) × (p : Tree) × (q : Tree) × (ys ≡ xs ++ steps_of p) × (suc low ≡ length ys) × IsRising (best p) × Ends ys q self.old }
-        ensures { OnOk result ((xs : List Step) (ys : List Step) (p : Tree) (q : Tree) → ys ≡ xs ++ steps_of p → suc low ≡ length ys → IsRising (best p) → Ends ys q self.old → (r : Tree) × OfHalves p q r × Ends xs r self.new) }
+        requires { (xs : List Step) × (ys : List Step) × (p : LeastPlan) × (q : LeastPlan) × (ys ≡ xs ++ steps_of p) × (suc low ≡ length ys) × IsRising (plan_best p) × EndsWithPlan ys q self.old }
+        ensures { OnOk result ((xs : List Step) (ys : List Step) (p : LeastPlan) (q : LeastPlan) → ys ≡ xs ++ steps_of p → suc low ≡ length ys → IsRising (plan_best p) → EndsWithPlan ys q self.old → (r : LeastPlan) × JoinsHalves p q r × EndsWithPlan xs r self.new) }
     {
         let high = self.last();
         let hops = self.merged(alloc, low, high)?;
@@ -207,8 +207,8 @@ impl Steps {
 
     /// Makes the plan of one half of a block, the upper half if `is_upper`, the plan of the block. Its other half has no hop.
     fn widen(&mut self, alloc: Global, is_upper: bool) -> Result<(), AllocError>
-        requires { (xs : List Step) × (p : Tree) × Ends xs p self.old }
-        ensures { OnOk result ((xs : List Step) (p : Tree) → Ends xs p self.old → (r : Tree) × OfHalf is_upper p r × Ends xs r self.new) }
+        requires { (xs : List Step) × (p : LeastPlan) × EndsWithPlan xs p self.old }
+        ensures { OnOk result ((xs : List Step) (p : LeastPlan) → EndsWithPlan xs p self.old → (r : LeastPlan) × OfHalf is_upper p r × EndsWithPlan xs r self.new) }
     {
         let Some(last) = self.steps.last() else {
             return Ok(());
@@ -234,8 +234,8 @@ impl Steps {
         requires short { length path.now ≤ 128 }
         requires inside { from ≤ length path.now }
         requires order { to ≤ from }
-        requires plans { (w : ℕ) × (length path.now ≤ w) × (ps : List (List Bool × ℕ)) × (xs : List Step) × Plans w path.now from ps xs self.old }
-        ensures { OnOk result ((w : ℕ) (ps : List (List Bool × ℕ)) (xs : List Step) → length path.now ≤ w → Plans w path.now from ps xs self.old → Plans w path.now to ps xs self.new) }
+        requires plans { (w : ℕ) × (length path.now ≤ w) × (ps : List (List Bool × ℕ)) × (xs : List Step) × HasPlan w path.now from ps xs self.old }
+        ensures { OnOk result ((w : ℕ) (ps : List (List Bool × ℕ)) (xs : List Step) → length path.now ≤ w → HasPlan w path.now from ps xs self.old → HasPlan w path.now to ps xs self.new) }
     {
         let mut at = from;
         while at > to {
@@ -247,9 +247,9 @@ impl Steps {
 
     /// The hop that a block passes on to its parts if it inherits the hop `inherited`, and whether it needs a route for that.
     fn choice(&self, step: Packed, inherited: Option<u32>) -> (Option<u32>, bool)
-        requires { IsKept self.now.sets step }
-        ensures hop { result.0 ≡ passed_on (Of (step_best (step_of self.now.sets step))) inherited }
-        ensures route { result.1 ≡ not (holds (step_best (step_of self.now.sets step)) inherited) }
+        requires { IsKeptStep self.now.sets step }
+        ensures hop { result.0 ≡ passed_on (Of (step_best (stored_step self.now.sets step))) inherited }
+        ensures route { result.1 ≡ not (holds (step_best (stored_step self.now.sets step)) inherited) }
     {
         let best = self.best(step);
         if is_among(best.as_slice(), inherited) {
@@ -268,8 +268,8 @@ impl Steps {
     ) -> Result<(), AllocError>
         requires short { P.R.width ≤ 128 }
         requires inside { length path.now ≤ P.R.width }
-        requires plan { (xs : List Step) × (p : Tree) × EndsIn (P.R.width - length path.now) xs p self.old }
-        ensures stores { OnOk result ((xs : List Step) (p : Tree) → EndsIn (P.R.width - length path.now) xs p self.old → Stores P.bits path.now inherited xs p routes.old routes.new self.old self.new) }
+        requires plan { (xs : List Step) × (p : LeastPlan) × EndsWithin (P.R.width - length path.now) xs p self.old }
+        ensures stores { OnOk result ((xs : List Step) (p : LeastPlan) → EndsWithin (P.R.width - length path.now) xs p self.old → Stores P.bits path.now inherited xs p routes.old routes.new self.old self.new) }
         ensures networks { OnOk result (AreNetworks P.fits P.of_bits P.bits routes.old → AreNetworks P.fits P.of_bits P.bits routes.new) }
     {
         let Some(step) = self.steps.pop() else {

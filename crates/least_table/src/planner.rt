@@ -2,12 +2,12 @@
 ghost use Rattle.std.specs.Prelude.{◌≡◌, ◌<◌, ◌≤◌, ◌++◌, ◌∷◌, [], ℕ, AllPairs, Bool, IfOk, IsTrue, List, MatchOption, OnOk, length, reverse, true};
 ghost use Rattle.std.specs.declared.cmp.Ordering.TheVariants.{Less};
 ghost use Rattle.ipnet_blocks.specs.BitStrings.{bits_cmp};
-ghost use Rattle.least_table.specs.Pieces.{AreDisjoint, hop_at, strings};
-ghost use Rattle.least_table.specs.Tables.{IsLeast};
+ghost use Rattle.least_table.specs.Pieces.{AreDisjoint, piece_hop, strings};
+ghost use Rattle.least_table.specs.Tables.{IsLeastTable};
 ghost use Rattle.least_table.specs.InnerPacked.{AreWhole, steps_in};
 ghost use Rattle.least_table.specs.InnerPieces.{before};
 ghost use Rattle.least_table.specs.InnerSteps.{AreNetworks};
-ghost use Rattle.least_table.specs.InnerPlanners.{AreLowers, ArePlanned, HasPlanned, IsInside};
+ghost use Rattle.least_table.specs.InnerPlanners.{AreLowers, ArePlanned, HasPlanned, IsDeeper};
 
 use crate::bits::common;
 use crate::plan::Steps;
@@ -28,7 +28,7 @@ struct Lower {
 
 /// Removes and returns the innermost lower half, if its block has at least `depth` bits.
 fn innermost(lowers: &mut Vec<Lower>, depth: u8) -> Option<Lower>
-    ensures { MatchOption result ((lowers.new ≡ lowers.old) × IsInside depth (reverse lowers.old.items)) (λ o. (depth ≤ o.depth) × (lowers.old.items ≡ lowers.new.items ++ o ∷ [])) }
+    ensures { MatchOption result ((lowers.new ≡ lowers.old) × IsDeeper depth (reverse lowers.old.items)) (λ o. (depth ≤ o.depth) × (lowers.old.items ≡ lowers.new.items ++ o ∷ [])) }
 {
     match lowers.as_slice() {
         [.., lower] if lower.depth >= depth => lowers.pop(),
@@ -128,7 +128,7 @@ impl<P: Prefix + Copy> Planner<P> {
         requires planned { (ps : List (List Bool × ℕ)) × ArePlanned P.R.width last.now (length last.now) (length last.now) ps self.old.lowers.items self.old.steps }
         ensures networks { IfOk result (λ table. AreNetworks P.fits P.of_bits P.bits table) }
         ensures ordered { IfOk result (λ table. AllPairs (λ r s. bits_cmp r.0 s.0 ≡ Less) (strings P.bits table)) }
-        ensures least { IfOk result (λ table. (ps : List (List Bool × ℕ)) → ArePlanned P.R.width last.now (length last.now) (length last.now) ps self.old.lowers.items self.old.steps → IsLeast P.R.width (hop_at ps) (strings P.bits table)) }
+        ensures least { IfOk result (λ table. (ps : List (List Bool × ℕ)) → ArePlanned P.R.width last.now (length last.now) (length last.now) ps self.old.lowers.items self.old.steps → IsLeastTable P.R.width (piece_hop ps) (strings P.bits table)) }
     {
         let _width = <P::R as Key>::width();
         self.close(last, 0)?;
@@ -146,7 +146,7 @@ impl<P: Prefix + Copy> Planner<P> {
         requires { (ps : List (List Bool × ℕ)) × HasPlanned P.R.width self ps }
         ensures networks { IfOk result (λ table. AreNetworks P.fits P.of_bits P.bits table) }
         ensures ordered { IfOk result (λ table. AllPairs (λ r s. bits_cmp r.0 s.0 ≡ Less) (strings P.bits table)) }
-        ensures least { IfOk result (λ table. (ps : List (List Bool × ℕ)) → HasPlanned P.R.width self ps → IsLeast P.R.width (hop_at ps) (strings P.bits table)) }
+        ensures least { IfOk result (λ table. (ps : List (List Bool × ℕ)) → HasPlanned P.R.width self ps → IsLeastTable P.R.width (piece_hop ps) (strings P.bits table)) }
     {
         let mut left = self;
         match left.last.take() {

@@ -21,11 +21,11 @@ pub struct Stack<X, const SIZE: usize> {
 
 impl<X, const SIZE: usize> Model for Stack<X, SIZE> {
     ghost use Rattle.std.specs.Prelude.{List, ◌++◌, ◌≤◌, ◌^◌, length};
-    ghost use Rattle.least_table.specs.InnerStacks.{AreFull, IsSize, joined};
+    ghost use Rattle.least_table.specs.InnerStacks.{AreFull, IsSize, joined_blocks};
 
     ghost Value = { List X };
 
-    ghost view = { λ a. joined a.full.items ++ a.last.items };
+    ghost view = { λ a. joined_blocks a.full.items ++ a.last.items };
 
     ghost invariant = { λ a. IsSize SIZE × AreFull SIZE a.full.items × (length a.full.items ≤ 2 ^ 32) × (length a.last.items ≤ SIZE) };
 }

@@ -3,11 +3,11 @@ use Rattle.std.proofs.Common.{◌≡◌, ℕ, suc, Bool, true, false, cond, not,
 use Rattle.std.proofs.lemmas.Bool.{lt-ltb, le-ltb, ltb-true, ltb-false}
 use Rattle.nearest_table.specs.Asked.{AskedLaw, NoneHolds, NoneInside, at, hop_if, shorter}
 use Rattle.least_table.specs.Nearest.{same_string}
-use Rattle.least_table.specs.Wholes.{bare}
-use Rattle.nearest_table.specs.Blocks.{inner, around, innermost}
+use Rattle.least_table.specs.Wholes.{without_own}
+use Rattle.nearest_table.specs.Blocks.{inner, around, innermost_route}
 use Rattle.ipnet_blocks.specs.BitStrings.{begins}
-use Rattle.least_table.specs.Tables.{half, longer, longest, own}
-use Rattle.least_table.proofs.Split.{lifted, longest-half}
+use Rattle.least_table.specs.Tables.{half, longer_route, longest_route, own}
+use Rattle.least_table.proofs.Split.{lifted, longest_route-half}
 
 at-whole : (t : List (List Bool × Option ℕ)) → own t ≡ at t []
 at-whole [] = refl
@@ -28,12 +28,12 @@ own_at (c ∷ b) t = own_at b (half t c) ∙ at-half t c b
 
 -- ---- none inside
 
-whole_to : (t : List (List Bool × Option ℕ)) → bare t ≡ [] → NoneInside t []
+whole_to : (t : List (List Bool × Option ℕ)) → without_own t ≡ [] → NoneInside t []
 whole_to [] e = tt
 whole_to (([], k) ∷ t) e = ((λ f. refl), whole_to t e)
 whole_to ((b ∷ c, k) ∷ t) e = cc
 
-whole_from : (t : List (List Bool × Option ℕ)) → NoneInside t [] → bare t ≡ []
+whole_from : (t : List (List Bool × Option ℕ)) → NoneInside t [] → without_own t ≡ []
 whole_from [] h = refl
 whole_from (([], k) ∷ t) h = whole_from t h.1
 whole_from ((b ∷ c, k) ∷ t) h = let e = h.0 refl in cc
@@ -57,17 +57,17 @@ half_from ((false ∷ d, k) ∷ t) true c h = half_from t true c h.1
 half_from ((true ∷ d, k) ∷ t) false c h = half_from t false c h.1
 half_from ((true ∷ d, k) ∷ t) true c h = ((λ f. tail_of true true d c (h.0 f)), half_from t true c h.1)
 
-leaf_to : (b : List Bool) (t : List (List Bool × Option ℕ)) → bare (inner b t) ≡ [] → NoneInside t b
+leaf_to : (b : List Bool) (t : List (List Bool × Option ℕ)) → without_own (inner b t) ≡ [] → NoneInside t b
 leaf_to [] t e = whole_to t e
 leaf_to (c ∷ b) t e = half_to t c b (leaf_to b (half t c) e)
 
-leaf_from : (b : List Bool) (t : List (List Bool × Option ℕ)) → NoneInside t b → bare (inner b t) ≡ []
+leaf_from : (b : List Bool) (t : List (List Bool × Option ℕ)) → NoneInside t b → without_own (inner b t) ≡ []
 leaf_from [] t h = whole_from t h
 leaf_from (c ∷ b) t h = leaf_from b (half t c) (half_from t c b h)
 
 -- ---- the addresses that no route strictly inside contains
 
-longer_some : (r : List Bool × Option ℕ) (m : Option (List Bool × Option ℕ)) → longer r m ≡ None → ⊥
+longer_some : (r : List Bool × Option ℕ) (m : Option (List Bool × Option ℕ)) → longer_route r m ≡ None → ⊥
 longer_some r None e = cc
 longer_some r (Some q) e = go (nat_lt (length r.0) (length q.0)) e
   where
@@ -75,21 +75,21 @@ longer_some r (Some q) e = go (nat_lt (length r.0) (length q.0)) e
     go true e = cc
     go false e = cc
 
-free_to : (t : List (List Bool × Option ℕ)) (x : List Bool) → longest (bare t) x ≡ None → NoneHolds t [] x
+free_to : (t : List (List Bool × Option ℕ)) (x : List Bool) → longest_route (without_own t) x ≡ None → NoneHolds t [] x
 free_to [] x e = tt
 free_to (([], k) ∷ t) x e = ((λ f g. refl), free_to t x e)
 free_to ((b ∷ c, k) ∷ t) x e = go (begins (b ∷ c) x) refl e (free_to t x)
   where
-    go : (v : Bool) → begins (b ∷ c) x ≡ v → cond v (longer (b ∷ c, k) (longest (bare t) x)) (longest (bare t) x) ≡ None → (longest (bare t) x ≡ None → NoneHolds t [] x) → NoneHolds ((b ∷ c, k) ∷ t) [] x
-    go true i f more = absurd (longer_some (b ∷ c, k) (longest (bare t) x) f)
+    go : (v : Bool) → begins (b ∷ c) x ≡ v → cond v (longer_route (b ∷ c, k) (longest_route (without_own t) x)) (longest_route (without_own t) x) ≡ None → (longest_route (without_own t) x ≡ None → NoneHolds t [] x) → NoneHolds ((b ∷ c, k) ∷ t) [] x
+    go true i f more = absurd (longer_some (b ∷ c, k) (longest_route (without_own t) x) f)
     go false i f more = ((λ g h. let j = sym h ∙ i in cc), more f)
 
-free_from : (t : List (List Bool × Option ℕ)) (x : List Bool) → NoneHolds t [] x → longest (bare t) x ≡ None
+free_from : (t : List (List Bool × Option ℕ)) (x : List Bool) → NoneHolds t [] x → longest_route (without_own t) x ≡ None
 free_from [] x h = refl
 free_from (([], k) ∷ t) x h = free_from t x h.1
 free_from ((b ∷ c, k) ∷ t) x h = go (begins (b ∷ c) x) refl (free_from t x h.1)
   where
-    go : (v : Bool) → begins (b ∷ c) x ≡ v → longest (bare t) x ≡ None → cond v (longer (b ∷ c, k) (longest (bare t) x)) (longest (bare t) x) ≡ None
+    go : (v : Bool) → begins (b ∷ c) x ≡ v → longest_route (without_own t) x ≡ None → cond v (longer_route (b ∷ c, k) (longest_route (without_own t) x)) (longest_route (without_own t) x) ≡ None
     go true i more = let e = h.0 refl i in cc
     go false i more = more
 
@@ -101,7 +101,7 @@ half_holds ((false ∷ d, k) ∷ t) true c x = let m = half_holds t true c x in 
 half_holds ((true ∷ d, k) ∷ t) false c x = let m = half_holds t false c x in (λ h. ((λ f. cc), m.0 h), λ h. m.1 h.1)
 half_holds ((true ∷ d, k) ∷ t) true c x = let m = half_holds t true c x in (λ h. ((λ f g. ap (λ y. true ∷ y) (h.0 f g)), m.0 h.1), λ h. ((λ f g. tail_of true true d c (h.0 f g)), m.1 h.1))
 
-free_at : (b : List Bool) (t : List (List Bool × Option ℕ)) (x : List Bool) → (longest (bare (inner b t)) x ≡ None) ↔ NoneHolds t b (b ++ x)
+free_at : (b : List Bool) (t : List (List Bool × Option ℕ)) (x : List Bool) → (longest_route (without_own (inner b t)) x ≡ None) ↔ NoneHolds t b (b ++ x)
 free_at [] t x = (free_to t x, free_from t x)
 free_at (c ∷ b) t x = let m = free_at b (half t c) x in let n = half_holds t c b (b ++ x) in (λ e. n.0 (m.0 e), λ h. m.1 (n.1 h))
 
@@ -145,21 +145,21 @@ half-shorter n ((false ∷ d, k) ∷ t) true = other_cond (nat_lt (suc (length d
 half-shorter n ((true ∷ d, k) ∷ t) false = other_cond (nat_lt (suc (length d)) (suc n)) true d k (shorter (suc n) t) ∙ half-shorter n t false
 half-shorter n ((true ∷ d, k) ∷ t) true = half_cond (nat_lt (suc (length d)) (suc n)) (d, k) (shorter (suc n) t) true ∙ ap₂ (λ v u. cond v ((d, k) ∷ u) u) (one_less (length d) n) (half-shorter n t true)
 
-lift_over : (o c : Option (Option ℕ)) (b : Bool) (m : Option (List Bool × Option ℕ)) → innermost (innermost o c) (hop_if m) ≡ innermost o (hop_if (lifted b c m))
+lift_over : (o c : Option (Option ℕ)) (b : Bool) (m : Option (List Bool × Option ℕ)) → innermost_route (innermost_route o c) (hop_if m) ≡ innermost_route o (hop_if (lifted b c m))
 lift_over o None b None = refl
 lift_over o (Some k) b None = refl
 lift_over o c b (Some r) = refl
 
-around_is : (b : List Bool) (o : Option (Option ℕ)) (t : List (List Bool × Option ℕ)) → around b o t ≡ innermost o (hop_if (longest (shorter (length b) t) b))
-around_is [] o t = sym (ap (λ u. innermost o (hop_if (longest u []))) (none_shorter t))
+around_is : (b : List Bool) (o : Option (Option ℕ)) (t : List (List Bool × Option ℕ)) → around b o t ≡ innermost_route o (hop_if (longest_route (shorter (length b) t) b))
+around_is [] o t = sym (ap (λ u. innermost_route o (hop_if (longest_route u []))) (none_shorter t))
 around_is (c ∷ b) o t =
-    around_is b (innermost o (own t)) (half t c)
-    ∙ lift_over o (own t) c (longest (shorter (length b) (half t c)) b)
-    ∙ ap (λ m. innermost o (hop_if m)) (ap₂ (λ k u. lifted c k (longest u b)) (sym (own-shorter (length b) t)) (sym (half-shorter (length b) t c)) ∙ sym (longest-half (shorter (suc (length b)) t) c b))
+    around_is b (innermost_route o (own t)) (half t c)
+    ∙ lift_over o (own t) c (longest_route (shorter (length b) (half t c)) b)
+    ∙ ap (λ m. innermost_route o (hop_if m)) (ap₂ (λ k u. lifted c k (longest_route u b)) (sym (own-shorter (length b) t)) (sym (half-shorter (length b) t c)) ∙ sym (longest_route-half (shorter (suc (length b)) t) c b))
 
-over_none : (m : Option (Option ℕ)) → innermost None m ≡ m
+over_none : (m : Option (Option ℕ)) → innermost_route None m ≡ m
 over_none None = refl
 over_none (Some k) = refl
 
 pub asked_law : AskedLaw
-asked_law t b = (own_at b t, (leaf_to b t, leaf_from b t), around_is b None t ∙ over_none (hop_if (longest (shorter (length b) t) b)), free_at b t)
+asked_law t b = (own_at b t, (leaf_to b t, leaf_from b t), around_is b None t ∙ over_none (hop_if (longest_route (shorter (length b) t) b)), free_at b t)

@@ -2,10 +2,10 @@
 use Rattle.std.proofs.Common.{◌≡◌, ℕ, suc, Bool, true, false, List, [], ◌∷◌, length, Option, None, refl, sym, ap, ◌∙◌, subst, arith}
 use Rattle.least_table.specs.BestHops.{Any, Of, AreMerged}
 use Rattle.nearest_table.specs.InnerPlans.{IsFork, IsJoined, OfHalves, tree_of}
-use Rattle.nearest_table.specs.Plans.{Stay, best, IsPlan}
+use Rattle.nearest_table.specs.Plans.{Stay, tree_best, IsPlan}
 use Rattle.nearest_table.specs.Blocks.{Covers}
-use Rattle.least_table.specs.Tables.{half, half_of, hop_under, own, passed}
-use Rattle.nearest_table.specs.Wanted.{hops_of}
+use Rattle.least_table.specs.Tables.{half, half_of, hop_inheriting, own, passed}
+use Rattle.nearest_table.specs.Wanted.{wanted_hops}
 use Rattle.nearest_table.specs.declared.plans.Plan.{Plan, Fork', Held', One, Idle}
 use Rattle.nearest_table.proofs.Coverings.{half_covered, half_free}
 use Rattle.least_table.proofs.Split.{hop-half}
@@ -14,12 +14,12 @@ use Rattle.nearest_table.proofs.Trees.{covered}
 module _ (v : ℕ) (h : List Bool → Option ℕ) (t : List (List Bool × Option ℕ)) (none : own t ≡ None) where
   -- a half that has its new hops where k is handed down
   abbrev Same : Bool → Option ℕ → Type 0
-  Same b k = (x : List Bool) → length x ≡ v → half_of b h x ≡ hop_under k (half t b) x
+  Same b k = (x : List Bool) → length x ≡ v → half_of b h x ≡ hop_inheriting k (half t b) x
 
-  up : (b : Bool) (k : Option ℕ) → Same b k → (x : List Bool) → length x ≡ v → h (b ∷ x) ≡ hop_under k t (b ∷ x)
-  up b k same x l = same x l ∙ sym (hop-half k t b x ∙ ap (λ o. hop_under (passed k o) (half t b) x) none)
+  up : (b : Bool) (k : Option ℕ) → Same b k → (x : List Bool) → length x ≡ v → h (b ∷ x) ≡ hop_inheriting k t (b ∷ x)
+  up b k same x l = same x l ∙ sym (hop-half k t b x ∙ ap (λ o. hop_inheriting (passed k o) (half t b) x) none)
 
-  both : (k : Option ℕ) → Same false k → Same true k → (x : List Bool) → length x ≡ suc v → h x ≡ hop_under k t x
+  both : (k : Option ℕ) → Same false k → Same true k → (x : List Bool) → length x ≡ suc v → h x ≡ hop_inheriting k t x
   both k low high [] l = absurd (omega (arith, l))
   both k low high (false ∷ x) l = up false k low x (omega (arith, l))
   both k low high (true ∷ x) l = up true k high x (omega (arith, l))
@@ -78,7 +78,7 @@ fork_halves low high (Fork' hops u l q r) is = (
     v,
     refl,
     none,
-    subst (λ x. AreMerged (best (tree_of x)) (best (tree_of r)) (hops_of hops)) (sym is.0) (subst (λ y. AreMerged (best (tree_of low)) (best (tree_of y)) (hops_of hops)) (sym is.1) is.2),
+    subst (λ x. AreMerged (tree_best (tree_of x)) (tree_best (tree_of r)) (wanted_hops hops)) (sym is.0) (subst (λ y. AreMerged (tree_best (tree_of low)) (tree_best (tree_of y)) (wanted_hops hops)) (sym is.1) is.2),
     subst (λ x. IsPlan v (half_of false h) (half t false) (tree_of x)) (sym is.0) a,
     subst (λ x. IsPlan v (half_of true h) (half t true) (tree_of x)) (sym is.1) b,
   )),

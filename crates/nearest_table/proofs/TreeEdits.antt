@@ -3,17 +3,17 @@ use Rattle.std.proofs.Common.{◌≡◌, ℕ, suc, Bool, true, false, cond, not,
 use Rattle.std.proofs.lemmas.List.Elements.{filter-append}
 use Rattle.nearest_table.specs.Edits.{AreEdits, blocks, installed_in, removed_in}
 use Rattle.least_table.specs.InnerOrders.{ComesBeforeAll, IsInOrder}
-use Rattle.least_table.specs.HopSets.{same_hop, holds, first_of}
-use Rattle.least_table.specs.BestHops.{Hops, Any, Of, wants, first}
+use Rattle.least_table.specs.HopSets.{is_same_hop, holds, first_hop}
+use Rattle.least_table.specs.BestHops.{Hops, Any, Of, wants, first_best_hop}
 use Rattle.nearest_table.specs.Laws.{EditsLaw}
-use Rattle.least_table.specs.Nearest.{has, missing, stores, surplus}
-use Rattle.nearest_table.specs.Plans.{Tree, Stay, Fork, Held, best, IsPlan, edits_of, new_table}
-use Rattle.least_table.specs.Tables.{IsTable, half, half_of, own, inside}
-use Rattle.least_table.specs.Wholes.{bare, whole, with_own}
+use Rattle.least_table.specs.Nearest.{has, missing_routes, stores, surplus_routes}
+use Rattle.nearest_table.specs.Plans.{Tree, Stay, Fork, Held, tree_best, IsPlan, edits_of, new_table}
+use Rattle.least_table.specs.Tables.{IsBitTable, half, half_of, own, inside}
+use Rattle.least_table.specs.Wholes.{without_own, whole, with_own}
 use Rattle.least_table.proofs.Distances.{has-half, has-own, is_own, stores-half, stores-own}
 use Rattle.least_table.proofs.Sets.{same_hop-refl}
-use Rattle.least_table.proofs.Split.{joined, half-joined, IsTable-half}
-use Rattle.least_table.proofs.Owns.{own-bare, half-bare, own-with, half-with, IsTable-bare}
+use Rattle.least_table.proofs.Split.{joined, half-joined, IsBitTable-half}
+use Rattle.least_table.proofs.Owns.{own-bare, half-bare, own-with, half-with, IsBitTable-bare}
 use Rattle.least_table.proofs.Makes.{distance-self, own_covers}
 use Rattle.nearest_table.proofs.Trees.{first_best, other_hop, plain}
 
@@ -35,12 +35,12 @@ ordered_half ((false ∷ c, k) ∷ t) true h = ordered_half t true h.1
 ordered_half ((true ∷ c, k) ∷ t) false h = ordered_half t false h.1
 ordered_half ((true ∷ c, k) ∷ t) true h = (before_half c t true h.0, ordered_half t true h.1)
 
-before_bare : (a : List Bool) (t : List (List Bool × Option ℕ)) → ComesBeforeAll a t → ComesBeforeAll a (bare t)
+before_bare : (a : List Bool) (t : List (List Bool × Option ℕ)) → ComesBeforeAll a t → ComesBeforeAll a (without_own t)
 before_bare a [] h = tt
 before_bare a (([], k) ∷ t) h = before_bare a t h.1
 before_bare a ((b ∷ c, k) ∷ t) h = (h.0, before_bare a t h.1)
 
-pub ordered_bare : (t : List (List Bool × Option ℕ)) → IsInOrder t → IsInOrder (bare t)
+pub ordered_bare : (t : List (List Bool × Option ℕ)) → IsInOrder t → IsInOrder (without_own t)
 ordered_bare [] h = tt
 ordered_bare (([], k) ∷ t) h = ordered_bare t h.1
 ordered_bare ((b ∷ c, k) ∷ t) h = (before_bare (b ∷ c) t h.0, ordered_bare t h.1)
@@ -68,12 +68,12 @@ ordered_split ((true ∷ c, k) ∷ t) h =
     ap (λ u. (true ∷ c, k) ∷ u) (ordered_split t h.1 ∙ ap₂ (λ o l. whole o l (half t true)) (no_own (true ∷ c) t h.0) (no_low c t h.0))
     ∙ ap₂ (λ o l. whole o l ((c, k) ∷ half t true)) (sym (no_own (true ∷ c) t h.0)) (sym (no_low c t h.0))
 
-pub no_bare : (t : List (List Bool × Option ℕ)) → own t ≡ None → bare t ≡ t
+pub no_bare : (t : List (List Bool × Option ℕ)) → own t ≡ None → without_own t ≡ t
 no_bare [] e = refl
 no_bare (([], k) ∷ t) e = cc
 no_bare ((b ∷ c, k) ∷ t) e = ap (λ u. (b ∷ c, k) ∷ u) (no_bare t e)
 
-pub held_first : (k : Option ℕ) (t : List (List Bool × Option ℕ)) → IsInOrder t → own t ≡ Some k → t ≡ ([], k) ∷ bare t
+pub held_first : (k : Option ℕ) (t : List (List Bool × Option ℕ)) → IsInOrder t → own t ≡ Some k → t ≡ ([], k) ∷ without_own t
 held_first k [] h e = cc
 held_first k (([], j) ∷ t) h e = ap₂ (λ i u. ([], i) ∷ u) (cc) (sym (no_bare t (no_own [] t h.0)))
 held_first k ((b ∷ c, j) ∷ t) h e = let f = no_own (b ∷ c) t h.0 in cc
@@ -84,28 +84,28 @@ kept_in : (b v : Bool) (r : List Bool × Option ℕ) (xs ys : List (List Bool ×
 kept_in b true r xs ys e = ap (λ u. (b ∷ r.0, r.1) ∷ u) e
 kept_in b false r xs ys e = e
 
-missing_in : (t : List (List Bool × Option ℕ)) (b : Bool) (l : List (List Bool × Option ℕ)) → missing t (inside b l) ≡ inside b (missing (half t b) l)
+missing_in : (t : List (List Bool × Option ℕ)) (b : Bool) (l : List (List Bool × Option ℕ)) → missing_routes t (inside b l) ≡ inside b (missing_routes (half t b) l)
 missing_in t b [] = refl
-missing_in t b (r ∷ l) = ap (λ v. cond (not v) ((b ∷ r.0, r.1) ∷ missing t (inside b l)) (missing t (inside b l))) (has-half t b r.0 r.1) ∙ kept_in b (not (has (half t b) r)) r (missing t (inside b l)) (missing (half t b) l) (missing_in t b l)
+missing_in t b (r ∷ l) = ap (λ v. cond (not v) ((b ∷ r.0, r.1) ∷ missing_routes t (inside b l)) (missing_routes t (inside b l))) (has-half t b r.0 r.1) ∙ kept_in b (not (has (half t b) r)) r (missing_routes t (inside b l)) (missing_routes (half t b) l) (missing_in t b l)
 
-surplus_in : (u : List (List Bool × Option ℕ)) (b : Bool) (l : List (List Bool × Option ℕ)) → surplus (inside b l) u ≡ inside b (surplus l (half u b))
+surplus_in : (u : List (List Bool × Option ℕ)) (b : Bool) (l : List (List Bool × Option ℕ)) → surplus_routes (inside b l) u ≡ inside b (surplus_routes l (half u b))
 surplus_in u b [] = refl
-surplus_in u b (r ∷ l) = ap (λ v. cond (not v) ((b ∷ r.0, r.1) ∷ surplus (inside b l) u) (surplus (inside b l) u)) (stores-half u b r.0) ∙ kept_in b (not (stores (half u b) r.0)) r (surplus (inside b l) u) (surplus l (half u b)) (surplus_in u b l)
+surplus_in u b (r ∷ l) = ap (λ v. cond (not v) ((b ∷ r.0, r.1) ∷ surplus_routes (inside b l) u) (surplus_routes (inside b l) u)) (stores-half u b r.0) ∙ kept_in b (not (stores (half u b) r.0)) r (surplus_routes (inside b l) u) (surplus_routes l (half u b)) (surplus_in u b l)
 
-missing-joined : (t l r : List (List Bool × Option ℕ)) → missing t (joined l r) ≡ joined (missing (half t false) l) (missing (half t true) r)
+missing-joined : (t l r : List (List Bool × Option ℕ)) → missing_routes t (joined l r) ≡ joined (missing_routes (half t false) l) (missing_routes (half t true) r)
 missing-joined t l r = filter-append (λ q. not (has t q)) (inside false l) (inside true r) ∙ ap₂ (λ x y. x ++ y) (missing_in t false l) (missing_in t true r)
 
-surplus-joined : (u l r : List (List Bool × Option ℕ)) → surplus (joined l r) u ≡ joined (surplus l (half u false)) (surplus r (half u true))
+surplus-joined : (u l r : List (List Bool × Option ℕ)) → surplus_routes (joined l r) u ≡ joined (surplus_routes l (half u false)) (surplus_routes r (half u true))
 surplus-joined u l r = filter-append (λ q. not (stores u q.0)) (inside false l) (inside true r) ∙ ap₂ (λ x y. x ++ y) (surplus_in u false l) (surplus_in u true r)
 
 -- ---- and without the route of the whole block
 
-missing-bare : (t u : List (List Bool × Option ℕ)) → own u ≡ None → missing t u ≡ missing (bare t) u
+missing-bare : (t u : List (List Bool × Option ℕ)) → own u ≡ None → missing_routes t u ≡ missing_routes (without_own t) u
 missing-bare t [] e = refl
 missing-bare t (([], k) ∷ u) e = cc
-missing-bare t ((b ∷ c, k) ∷ u) e = ap₂ (λ v us. cond (not v) ((b ∷ c, k) ∷ us) us) (has-half t b c k ∙ ap (λ l. has l (c, k)) (sym (half-bare t b)) ∙ sym (has-half (bare t) b c k)) (missing-bare t u e)
+missing-bare t ((b ∷ c, k) ∷ u) e = ap₂ (λ v us. cond (not v) ((b ∷ c, k) ∷ us) us) (has-half t b c k ∙ ap (λ l. has l (c, k)) (sym (half-bare t b)) ∙ sym (has-half (without_own t) b c k)) (missing-bare t u e)
 
-surplus-with : (o : Option (Option ℕ)) (t u : List (List Bool × Option ℕ)) → own t ≡ None → surplus t (with_own o u) ≡ surplus t u
+surplus-with : (o : Option (Option ℕ)) (t u : List (List Bool × Option ℕ)) → own t ≡ None → surplus_routes t (with_own o u) ≡ surplus_routes t u
 surplus-with o [] u e = refl
 surplus-with o (([], k) ∷ t) u e = cc
 surplus-with o ((b ∷ c, k) ∷ t) u e = ap₂ (λ v us. cond (not v) ((b ∷ c, k) ∷ us) us) (stores-half (with_own o u) b c ∙ ap (λ l. stores l c) (half-with o u b) ∙ sym (stores-half u b c)) (surplus-with o t u e)
@@ -114,11 +114,11 @@ empty : {X : Type 0} (xs : List X) → length xs ≡ 0 → xs ≡ []
 empty [] e = refl
 empty (x ∷ xs) e = absurd (omega (arith, e))
 
-none_missing : (w : ℕ) (t : List (List Bool × Option ℕ)) → IsTable w t → missing t t ≡ []
-none_missing w t h = empty (missing t t) (omega (arith, distance-self w t h))
+none_missing : (w : ℕ) (t : List (List Bool × Option ℕ)) → IsBitTable w t → missing_routes t t ≡ []
+none_missing w t h = empty (missing_routes t t) (omega (arith, distance-self w t h))
 
-none_left : (w : ℕ) (t : List (List Bool × Option ℕ)) → IsTable w t → surplus t t ≡ []
-none_left w t h = empty (surplus t t) (omega (arith, distance-self w t h))
+none_left : (w : ℕ) (t : List (List Bool × Option ℕ)) → IsBitTable w t → surplus_routes t t ≡ []
+none_left w t h = empty (surplus_routes t t) (omega (arith, distance-self w t h))
 
 -- ---- edits
 
@@ -155,28 +155,28 @@ pub edits-joined : (t l r : List (List Bool × Option ℕ)) (es fs : List (List 
 edits-joined t l r es fs split a b = record {
   installs = installed-append (inside false es) (inside true fs) ∙ ap₂ (λ x y. x ++ y) (installed-in false es ∙ ap (inside false) a.installs) (installed-in true fs ∙ ap (inside true) b.installs) ∙ sym (missing-joined t l r);
   removes = removed-append (inside false es) (inside true fs) ∙ ap₂ (λ x y. x ++ y) (half_blocks false es (half t false) l a) (half_blocks true fs (half t true) r b)
-      ∙ sym (blocks-append (inside false (surplus (half t false) l)) (inside true (surplus (half t true) r)))
-      ∙ ap₂ (λ x y. blocks (inside false (surplus (half t false) x) ++ inside true (surplus (half t true) y))) (sym (half-joined l r false)) (sym (half-joined l r true))
-      ∙ ap blocks (sym (surplus-joined (joined l r) (half t false) (half t true)) ∙ ap (λ v. surplus v (joined l r)) (sym split));
+      ∙ sym (blocks-append (inside false (surplus_routes (half t false) l)) (inside true (surplus_routes (half t true) r)))
+      ∙ ap₂ (λ x y. blocks (inside false (surplus_routes (half t false) x) ++ inside true (surplus_routes (half t true) y))) (sym (half-joined l r false)) (sym (half-joined l r true))
+      ∙ ap blocks (sym (surplus-joined (joined l r) (half t false) (half t true)) ∙ ap (λ v. surplus_routes v (joined l r)) (sym split));
 }
   where
-    half_blocks : (b : Bool) (es : List (List Bool × Option (Option ℕ))) (t u : List (List Bool × Option ℕ)) → AreEdits t u es → removed_in (inside b es) ≡ blocks (inside b (surplus t u))
-    half_blocks b es t u a = removed-in b es ∙ ap (map (λ c. b ∷ c)) a.removes ∙ sym (blocks-inside b (surplus t u))
+    half_blocks : (b : Bool) (es : List (List Bool × Option (Option ℕ))) (t u : List (List Bool × Option ℕ)) → AreEdits t u es → removed_in (inside b es) ≡ blocks (inside b (surplus_routes t u))
+    half_blocks b es t u a = removed-in b es ∙ ap (map (λ c. b ∷ c)) a.removes ∙ sym (blocks-inside b (surplus_routes t u))
 
 -- a route is installed in a block that had none
-edits-new : (w : ℕ) (t u : List (List Bool × Option ℕ)) (k : Option ℕ) (es : List (List Bool × Option (Option ℕ))) → IsTable w t → own t ≡ None → AreEdits t u es → AreEdits t (([], k) ∷ u) (([], Some k) ∷ es)
+edits-new : (w : ℕ) (t u : List (List Bool × Option ℕ)) (k : Option ℕ) (es : List (List Bool × Option (Option ℕ))) → IsBitTable w t → own t ≡ None → AreEdits t u es → AreEdits t (([], k) ∷ u) (([], Some k) ∷ es)
 edits-new w t u k es table e a = record {
-  installs = ap (λ us. ([], k) ∷ us) a.installs ∙ ap (λ v. cond (not v) (([], k) ∷ missing t u) (missing t u)) (sym (has-own w t k table ∙ ap (λ o. is_own o k) e));
+  installs = ap (λ us. ([], k) ∷ us) a.installs ∙ ap (λ v. cond (not v) (([], k) ∷ missing_routes t u) (missing_routes t u)) (sym (has-own w t k table ∙ ap (λ o. is_own o k) e));
   removes = a.removes ∙ ap blocks (sym (surplus-with (Some k) t u e));
 }
 
 -- the edits beside a route that stays
-module _ (w : ℕ) (t u : List (List Bool × Option ℕ)) (k : Option ℕ) (es : List (List Bool × Option (Option ℕ))) (table : IsTable w t) (held : own t ≡ Some k) (first : t ≡ ([], k) ∷ bare t) (none : own u ≡ None) (a : AreEdits (bare t) u es) where
-  installs : (o : Option (Option ℕ)) (v : Bool) (j : Option ℕ) → o ≡ Some j → same_hop k j ≡ v → missing t (with_own o u) ≡ cond (not v) (([], j) ∷ installed_in es) (installed_in es)
-  installs o v j e f = ap (λ p. missing t (with_own p u)) e ∙ ap₂ (λ b us. cond (not b) (([], j) ∷ us) us) (has-own w t j table ∙ ap (λ p. is_own p j) held ∙ f) (missing-bare t u none ∙ sym a.installs)
+module _ (w : ℕ) (t u : List (List Bool × Option ℕ)) (k : Option ℕ) (es : List (List Bool × Option (Option ℕ))) (table : IsBitTable w t) (held : own t ≡ Some k) (whole_first : t ≡ ([], k) ∷ without_own t) (none : own u ≡ None) (a : AreEdits (without_own t) u es) where
+  installs : (o : Option (Option ℕ)) (v : Bool) (j : Option ℕ) → o ≡ Some j → is_same_hop k j ≡ v → missing_routes t (with_own o u) ≡ cond (not v) (([], j) ∷ installed_in es) (installed_in es)
+  installs o v j e f = ap (λ p. missing_routes t (with_own p u)) e ∙ ap₂ (λ b us. cond (not b) (([], j) ∷ us) us) (has-own w t j table ∙ ap (λ p. is_own p j) held ∙ f) (missing-bare t u none ∙ sym a.installs)
 
-  leaves : (o : Option (Option ℕ)) → surplus t (with_own o u) ≡ cond (not (is_some o)) (([], k) ∷ surplus (bare t) u) (surplus (bare t) u)
-  leaves o = ap (λ v. surplus v (with_own o u)) first ∙ ap₂ (λ v us. cond (not v) (([], k) ∷ us) us) (stores-own (with_own o u) ∙ ap is_some (own-with o u none)) (surplus-with o (bare t) u (own-bare t))
+  leaves : (o : Option (Option ℕ)) → surplus_routes t (with_own o u) ≡ cond (not (is_some o)) (([], k) ∷ surplus_routes (without_own t) u) (surplus_routes (without_own t) u)
+  leaves o = ap (λ v. surplus_routes v (with_own o u)) whole_first ∙ ap₂ (λ v us. cond (not v) (([], k) ∷ us) us) (stores-own (with_own o u) ∙ ap is_some (own-with o u none)) (surplus-with o (without_own t) u (own-bare t))
 
   pub edits-kept : AreEdits t (([], k) ∷ u) es
   edits-kept = record { installs = sym (installs (Some k) true k refl (same_hop-refl k)); removes = a.removes ∙ ap blocks (sym (leaves (Some k))) }
@@ -184,15 +184,15 @@ module _ (w : ℕ) (t u : List (List Bool × Option ℕ)) (k : Option ℕ) (es :
   pub edits-gone : AreEdits t u (([], None) ∷ es)
   edits-gone = record { installs = a.installs ∙ sym (missing-bare t u none); removes = ap (λ bs. [] ∷ bs) a.removes ∙ ap blocks (sym (leaves None)) }
 
-  pub edits-other : (j : Option ℕ) → same_hop k j ≡ false → AreEdits t (([], j) ∷ u) (([], Some j) ∷ es)
+  pub edits-other : (j : Option ℕ) → is_same_hop k j ≡ false → AreEdits t (([], j) ∷ u) (([], Some j) ∷ es)
   edits-other j e = record { installs = sym (installs (Some j) false j refl e); removes = a.removes ∙ ap blocks (sym (leaves (Some j))) }
 
-pub edits-none : (w : ℕ) (t : List (List Bool × Option ℕ)) → IsTable w t → AreEdits t t []
+pub edits-none : (w : ℕ) (t : List (List Bool × Option ℕ)) → IsBitTable w t → AreEdits t t []
 edits-none w t table = record { installs = sym (none_missing w t table); removes = ap blocks (sym (none_left w t table)) }
 
 -- ---- plans
 
-module _ (w : ℕ) (t : List (List Bool × Option ℕ)) (hops : Hops) (l r : Tree) (table : IsTable w t) (none : own t ≡ None) (order : IsInOrder t)
+module _ (w : ℕ) (t : List (List Bool × Option ℕ)) (hops : Hops) (l r : Tree) (table : IsBitTable w t) (none : own t ≡ None) (order : IsInOrder t)
     (low : (c : Option ℕ) → AreEdits (half t false) (new_table l (half t false) c) (edits_of l c)) (high : (c : Option ℕ) → AreEdits (half t true) (new_table r (half t true) c) (edits_of r c)) where
   both : (c : Option ℕ) → AreEdits t (joined (new_table l (half t false) c) (new_table r (half t true) c)) (inside false (edits_of l c) ++ inside true (edits_of r c))
   both c = edits-joined t (new_table l (half t false) c) (new_table r (half t true) c) (edits_of l c) (edits_of r c) (ordered_split t order ∙ ap (λ o. whole o (half t false) (half t true)) none) (low c) (high c)
@@ -200,44 +200,44 @@ module _ (w : ℕ) (t : List (List Bool × Option ℕ)) (hops : Hops) (l r : Tre
   fork_edits : (s : Option ℕ) → AreEdits t (new_table (Fork hops l r) t s) (edits_of (Fork hops l r) s)
   fork_edits s = go (wants hops s)
     where
-      go : (v : Bool) → AreEdits t (cond v (joined (new_table l (half t false) s) (new_table r (half t true) s)) (([], first hops) ∷ joined (new_table l (half t false) (first hops)) (new_table r (half t true) (first hops))))
-          (cond v (inside false (edits_of l s) ++ inside true (edits_of r s)) (([], Some (first hops)) ∷ inside false (edits_of l (first hops)) ++ inside true (edits_of r (first hops))))
+      go : (v : Bool) → AreEdits t (cond v (joined (new_table l (half t false) s) (new_table r (half t true) s)) (([], first_best_hop hops) ∷ joined (new_table l (half t false) (first_best_hop hops)) (new_table r (half t true) (first_best_hop hops))))
+          (cond v (inside false (edits_of l s) ++ inside true (edits_of r s)) (([], Some (first_best_hop hops)) ∷ inside false (edits_of l (first_best_hop hops)) ++ inside true (edits_of r (first_best_hop hops))))
       go true = both s
-      go false = edits-new w t _ (first hops) _ table none (both (first hops))
+      go false = edits-new w t _ (first_best_hop hops) _ table none (both (first_best_hop hops))
 
-module _ (w : ℕ) (h : List Bool → Option ℕ) (t : List (List Bool × Option ℕ)) (k : Option ℕ) (p : Tree) (table : IsTable w t) (held : own t ≡ Some k) (order : IsInOrder t) (plan : IsPlan w h (bare t) p)
-    (inner : (c : Option ℕ) → AreEdits (bare t) (new_table p (bare t) c) (edits_of p c)) where
-  nothing : (c : Option ℕ) → wants (best p) c ≡ true → own (new_table p (bare t) c) ≡ None
-  nothing c e = plain w h (bare t) p plan (own-bare t) c e
+module _ (w : ℕ) (h : List Bool → Option ℕ) (t : List (List Bool × Option ℕ)) (k : Option ℕ) (p : Tree) (table : IsBitTable w t) (held : own t ≡ Some k) (order : IsInOrder t) (plan : IsPlan w h (without_own t) p)
+    (inner : (c : Option ℕ) → AreEdits (without_own t) (new_table p (without_own t) c) (edits_of p c)) where
+  nothing : (c : Option ℕ) → wants (tree_best p) c ≡ true → own (new_table p (without_own t) c) ≡ None
+  nothing c e = plain w h (without_own t) p plan (own-bare t) c e
 
-  some : wants (best p) (first (best p)) ≡ true
-  some = first_best w h (bare t) p (IsTable-bare w t table) plan
+  some : wants (tree_best p) (first_best_hop (tree_best p)) ≡ true
+  some = first_best w h (without_own t) p (IsBitTable-bare w t table) plan
 
   held_edits : (s : Option ℕ) → AreEdits t (new_table (Held k p) t s) (edits_of (Held k p) s)
-  held_edits s = go (wants (best p) k) (wants (best p) s) refl refl
+  held_edits s = go (wants (tree_best p) k) (wants (tree_best p) s) refl refl
     where
-      go : (u v : Bool) → wants (best p) k ≡ u → wants (best p) s ≡ v
-          → AreEdits t (cond u (([], k) ∷ new_table p (bare t) k) (cond v (new_table p (bare t) s) (([], first (best p)) ∷ new_table p (bare t) (first (best p)))))
-          (cond u (edits_of p k) (cond v (([], None) ∷ edits_of p s) (([], Some (first (best p))) ∷ edits_of p (first (best p)))))
-      go true v e f = edits-kept w t (new_table p (bare t) k) k (edits_of p k) table held (held_first k t order held) (nothing k e) (inner k)
-      go false true e f = edits-gone w t (new_table p (bare t) s) k (edits_of p s) table held (held_first k t order held) (nothing s f) (inner s)
-      go false false e f = edits-other w t (new_table p (bare t) (first (best p))) k (edits_of p (first (best p))) table held (held_first k t order held) (nothing (first (best p)) some) (inner (first (best p))) (first (best p)) (other_hop (best p) k (first (best p)) e some)
+      go : (u v : Bool) → wants (tree_best p) k ≡ u → wants (tree_best p) s ≡ v
+          → AreEdits t (cond u (([], k) ∷ new_table p (without_own t) k) (cond v (new_table p (without_own t) s) (([], first_best_hop (tree_best p)) ∷ new_table p (without_own t) (first_best_hop (tree_best p)))))
+          (cond u (edits_of p k) (cond v (([], None) ∷ edits_of p s) (([], Some (first_best_hop (tree_best p))) ∷ edits_of p (first_best_hop (tree_best p)))))
+      go true v e f = edits-kept w t (new_table p (without_own t) k) k (edits_of p k) table held (held_first k t order held) (nothing k e) (inner k)
+      go false true e f = edits-gone w t (new_table p (without_own t) s) k (edits_of p s) table held (held_first k t order held) (nothing s f) (inner s)
+      go false false e f = edits-other w t (new_table p (without_own t) (first_best_hop (tree_best p))) k (edits_of p (first_best_hop (tree_best p))) table held (held_first k t order held) (nothing (first_best_hop (tree_best p)) some) (inner (first_best_hop (tree_best p))) (first_best_hop (tree_best p)) (other_hop (tree_best p) k (first_best_hop (tree_best p)) e some)
 
-plan_edits : (w : ℕ) (h : List Bool → Option ℕ) (t : List (List Bool × Option ℕ)) (p : Tree) → IsTable w t → IsInOrder t → IsPlan w h t p → (s : Option ℕ) → AreEdits t (new_table p t s) (edits_of p s)
+plan_edits : (w : ℕ) (h : List Bool → Option ℕ) (t : List (List Bool × Option ℕ)) (p : Tree) → IsBitTable w t → IsInOrder t → IsPlan w h t p → (s : Option ℕ) → AreEdits t (new_table p t s) (edits_of p s)
 plan_edits w h t (Stay Any) table order plan s = edits-none w t table
 plan_edits w h t (Stay (Of ks)) table order plan s = go (holds ks s)
   where
     none : own t ≡ None
     none = own_covers w t plan.1.2 table plan.1.4
 
-    go : (v : Bool) → AreEdits t (cond v t (([], first_of ks) ∷ t)) (cond v [] (([], Some (first_of ks)) ∷ []))
+    go : (v : Bool) → AreEdits t (cond v t (([], first_hop ks) ∷ t)) (cond v [] (([], Some (first_hop ks)) ∷ []))
     go true = edits-none w t table
-    go false = edits-new w t t (first_of ks) [] table none (edits-none w t table)
+    go false = edits-new w t t (first_hop ks) [] table none (edits-none w t table)
 plan_edits w h t (Fork hops l r) table order plan s =
-    let less : IsTable (suc plan.0) t = subst (λ i. IsTable i t) plan.1 table in
-    fork_edits w t hops l r table plan.2 order (λ c. plan_edits plan.0 (half_of false h) (half t false) l (IsTable-half plan.0 t false less) (ordered_half t false order) plan.4 c)
-    (λ c. plan_edits plan.0 (half_of true h) (half t true) r (IsTable-half plan.0 t true less) (ordered_half t true order) plan.5 c) s
-plan_edits w h t (Held k p) table order plan s = held_edits w h t k p table plan.0 order plan.1 (λ c. plan_edits w h (bare t) p (IsTable-bare w t table) (ordered_bare t order) plan.1 c) s
+    let less : IsBitTable (suc plan.0) t = subst (λ i. IsBitTable i t) plan.1 table in
+    fork_edits w t hops l r table plan.2 order (λ c. plan_edits plan.0 (half_of false h) (half t false) l (IsBitTable-half plan.0 t false less) (ordered_half t false order) plan.4 c)
+    (λ c. plan_edits plan.0 (half_of true h) (half t true) r (IsBitTable-half plan.0 t true less) (ordered_half t true order) plan.5 c) s
+plan_edits w h t (Held k p) table order plan s = held_edits w h t k p table plan.0 order plan.1 (λ c. plan_edits w h (without_own t) p (IsBitTable-bare w t table) (ordered_bare t order) plan.1 c) s
 
 pub edits_law : EditsLaw
 edits_law w h s t p table order plan = plan_edits w h t p table order plan s

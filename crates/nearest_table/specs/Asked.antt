@@ -1,8 +1,8 @@
 -- The routes of a block, inside it and around it, by the list of routes.
 use Rattle.std.specs.Prelude.{◌≡◌, ℕ, Bool, true, cond, List, [], ◌∷◌, ◌++◌, length, filter, nat_lt, Option, Some, None, ⊤, ◌↔◌}
 use Rattle.ipnet_blocks.specs.BitStrings.{begins}
-use Rattle.least_table.specs.Tables.{longest, own}
-use Rattle.least_table.specs.Wholes.{bare}
+use Rattle.least_table.specs.Tables.{longest_route, own}
+use Rattle.least_table.specs.Wholes.{without_own}
 use Rattle.nearest_table.specs.Blocks.{around, inner}
 use Rattle.least_table.specs.Nearest.{same_string}
 
@@ -34,5 +34,5 @@ hop_if (Some r) = Some r.1
 -- inside contains
 abbrev pub AskedLaw : Type 0
 AskedLaw = (t : List (List Bool × Option ℕ)) (b : List Bool) →
-    (own (inner b t) ≡ at t b) × ((bare (inner b t) ≡ []) ↔ NoneInside t b) × (around b None t ≡ hop_if (longest (shorter (length b) t) b))
-    × ((x : List Bool) → (longest (bare (inner b t)) x ≡ None) ↔ NoneHolds t b (b ++ x))
+    (own (inner b t) ≡ at t b) × ((without_own (inner b t) ≡ []) ↔ NoneInside t b) × (around b None t ≡ hop_if (longest_route (shorter (length b) t) b))
+    × ((x : List Bool) → (longest_route (without_own (inner b t)) x ≡ None) ↔ NoneHolds t b (b ++ x))

@@ -8,9 +8,9 @@ use Rattle.nearest_table.specs.declared.hops.Wanted.{Wanted}
 use Rattle.nearest_table.specs.declared.hops.Wanted.TheVariants as wanted
 
 -- the hops of a set
-abbrev pub hops_of : Wanted → Hops
-hops_of wanted.Any = Any
-hops_of (wanted.These ks) = Of (members ks)
+abbrev pub wanted_hops : Wanted → Hops
+wanted_hops wanted.Any = Any
+wanted_hops (wanted.These ks) = Of (members ks)
 
 -- the hops of a borrowed list, or any hop if there is no list
 abbrev pub hops_from : Option (Bor (List (Option ℕ))) → Hops

@@ -1,8 +1,8 @@
 //! The best inherited hops of a block: any hop, or those of an ascending list.
 ghost use Rattle.std.specs.Prelude.{◌≡◌, IfOk};
 ghost use Rattle.least_table.specs.InnerHops.{members};
-ghost use Rattle.least_table.specs.BestHops.{AreMerged, wants, first};
-ghost use Rattle.nearest_table.specs.Wanted.{Rises, hops_from, hops_of};
+ghost use Rattle.least_table.specs.BestHops.{AreMerged, wants, first_best_hop};
+ghost use Rattle.nearest_table.specs.Wanted.{Rises, hops_from, wanted_hops};
 
 use least_table::hops::{self, Hops};
 use std::alloc::{AllocError, Global};
@@ -28,7 +28,7 @@ pub(crate) fn is_wanted(hops: Option<&[Option<u32>]>, hop: Option<u32>) -> bool
 
 /// The first hop of the list, or none if there is no list.
 pub(crate) fn first_wanted(hops: Option<&[Option<u32>]>) -> Option<u32>
-    ensures { result ≡ first (hops_from hops.entry) }
+    ensures { result ≡ first_best_hop (hops_from hops.entry) }
 {
     match hops {
         None => None,
@@ -55,8 +55,8 @@ pub(crate) fn merge(
 ) -> Result<Wanted, AllocError>
     requires low_rises { Rises (hops_from low) }
     requires high_rises { Rises (hops_from high) }
-    ensures merged { IfOk result (λ hops. AreMerged (hops_from low.entry) (hops_from high.entry) (hops_of hops)) }
-    ensures rising { IfOk result (λ hops. Rises (hops_of hops)) }
+    ensures merged { IfOk result (λ hops. AreMerged (hops_from low.entry) (hops_from high.entry) (wanted_hops hops)) }
+    ensures rising { IfOk result (λ hops. Rises (wanted_hops hops)) }
 {
     match (low, high) {
         (None, None) => Ok(Wanted::Any),

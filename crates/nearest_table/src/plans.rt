@@ -3,11 +3,11 @@ ghost use Rattle.std.specs.Prelude.{◌≡◌, ◌-◌, ◌+◌, ◌≤◌, ◌+
 ghost use Rattle.nearest_table.specs.Changed.{AreInside, MakeNearest};
 ghost use Rattle.least_table.specs.InnerOrders.{IsInOrder};
 ghost use Rattle.nearest_table.specs.InnerPlans.{Fits, HasMore, IsFork, IsTold, IsJoined, Plans, owned_tree, tree_of};
-ghost use Rattle.nearest_table.specs.Plans.{IsPlan, best, edits_of};
+ghost use Rattle.nearest_table.specs.Plans.{IsPlan, tree_best, edits_of};
 ghost use Rattle.least_table.specs.BestHops.{passed_on};
 ghost use Rattle.nearest_table.specs.Settled.{passed_by, settled, settled_held};
-ghost use Rattle.least_table.specs.Tables.{IsTable, own, passed, within};
-ghost use Rattle.nearest_table.specs.Blocks.{inner, innermost};
+ghost use Rattle.least_table.specs.Tables.{IsBitTable, own, passed, within};
+ghost use Rattle.nearest_table.specs.Blocks.{inner, innermost_route};
 ghost use Rattle.nearest_table.specs.Told.{new_hop};
 ghost use Rattle.nearest_table.specs.Wanted.{Rises, hops_from};
 ghost use Rattle.nearest_table.specs.declared.plans.Plan as Plan;
@@ -76,7 +76,7 @@ fn settle_held(
 impl Plan {
     /// The best inherited hops of the block; any hop is best if there is no list.
     fn best(&self) -> Option<&[Option<u32>]>
-        ensures { hops_from result ≡ best (tree_of self.now) }
+        ensures { hops_from result ≡ tree_best (tree_of self.now) }
     {
         match self {
             Plan::One(hop) => Some(slice::from_ref(hop)),
@@ -139,8 +139,8 @@ fn one(low: Option<u32>, high: Option<u32>) -> Option<Plan>
 
 /// The plan that cuts a block into halves with these plans.
 fn fork(alloc: Global, low: Plan, high: Plan) -> Result<Plan, AllocError>
-    requires low_rises { Rises (best (tree_of low)) }
-    requires high_rises { Rises (best (tree_of high)) }
+    requires low_rises { Rises (tree_best (tree_of low)) }
+    requires high_rises { Rises (tree_best (tree_of high)) }
     ensures { IfOk result (λ p. IsFork low high p) }
 {
     let hops = merge(alloc, low.best(), high.best())?;
@@ -151,8 +151,8 @@ fn fork(alloc: Global, low: Plan, high: Plan) -> Result<Plan, AllocError>
 
 /// The plan of a block without a route, by the plans of its halves.
 fn join(alloc: Global, low: Plan, high: Plan) -> Result<Plan, AllocError>
-    requires low_rises { Rises (best (tree_of low)) }
-    requires high_rises { Rises (best (tree_of high)) }
+    requires low_rises { Rises (tree_best (tree_of low)) }
+    requires high_rises { Rises (tree_best (tree_of high)) }
     ensures { IfOk result (IsJoined (tree_of low) (tree_of high)) }
 {
     match stay(&low, &high) {
@@ -186,8 +186,8 @@ fn end<I: Installed, C: Table>(
     requires same { C.width ≡ I.width }
     requires short { I.width ≤ 128 }
     requires fits { length block.now ≤ I.width }
-    requires installed { IsTable (I.width - length block.now) (inner block.now (I.routes installed.now)) }
-    requires changes { IsTable (I.width - length block.now) (inner block.now (C.routes changes.now)) }
+    requires installed { IsBitTable (I.width - length block.now) (inner block.now (I.routes installed.now)) }
+    requires changes { IsBitTable (I.width - length block.now) (inner block.now (C.routes changes.now)) }
     requires told { IsTold told (inner block.now (C.routes changes.now)) }
     requires held { held ≡ own (inner block.now (I.routes installed.now)) }
     ensures { IfOk result (λ o. MatchOption o (HasMore (inner block.now (C.routes changes.now)) (inner block.now (I.routes installed.now))) (Plans (I.width - length block.now) told old (inner block.now (C.routes changes.now)) (inner block.now (I.routes installed.now)))) }
@@ -221,8 +221,8 @@ fn make_plan<I: Installed, C: Table>(
     requires same { C.width ≡ I.width }
     requires short { I.width ≤ 128 }
     requires fits { length block.now ≤ I.width }
-    requires installed { IsTable (I.width - length block.now) (inner block.now (I.routes installed.now)) }
-    requires changes { IsTable (I.width - length block.now) (inner block.now (C.routes changes.now)) }
+    requires installed { IsBitTable (I.width - length block.now) (inner block.now (I.routes installed.now)) }
+    requires changes { IsBitTable (I.width - length block.now) (inner block.now (C.routes changes.now)) }
     ensures { IfOk result (Plans (I.width - length block.now) told old (inner block.now (C.routes changes.now)) (inner block.now (I.routes installed.now))) }
 {
     let here = innermost(told, changes.own(block));
@@ -253,7 +253,7 @@ fn make_plan<I: Installed, C: Table>(
 
 /// The hop of the inner one of two routes, if there is one.
 fn innermost(outer: Option<Option<u32>>, inner: Option<Option<u32>>) -> Option<Option<u32>>
-    ensures { result ≡ innermost outer inner }
+    ensures { result ≡ innermost_route outer inner }
 {
     match inner {
         Some(hop) => Some(hop),
@@ -287,9 +287,9 @@ pub fn nearest<I: Installed, C: Table>(
     requires same { C.width ≡ I.width }
     requires short { I.width ≤ 128 }
     requires fits { length block.now ≤ I.width }
-    requires installed { IsTable I.width (I.routes installed.now) }
+    requires installed { IsBitTable I.width (I.routes installed.now) }
     requires order { IsInOrder (I.routes installed.now) }
-    requires changes { IsTable I.width (C.routes changes.now) }
+    requires changes { IsBitTable I.width (C.routes changes.now) }
     requires inside { AreInside I.width block.now (C.routes changes.now) }
     ensures { IfOk result (λ edits. MakeNearest I.width (C.routes changes.now) (I.routes installed.now) edits.items) }
 {

@@ -1,7 +1,7 @@
 //! Tables of routes, as searches of blocks see them.
 ghost use Rattle.std.specs.Prelude.{◌≡◌, ◌-◌, ℕ, ◌≤◌, List, [], Bool, Option, None, length, true, ◌↔◌};
 ghost use Rattle.least_table.specs.Tables.{own};
-ghost use Rattle.least_table.specs.Wholes.{bare};
+ghost use Rattle.least_table.specs.Wholes.{without_own};
 ghost use Rattle.nearest_table.specs.Blocks.{inner, around, IsCovered};
 
 use trie_core::Path;
@@ -27,7 +27,7 @@ pub trait Table {
     /// Whether no route is strictly inside the block.
     fn is_leaf(&self, block: &Path) -> bool
         requires { length block.now ≤ width }
-        ensures { (result ≡ true) ↔ (bare (inner block.now (routes self.now)) ≡ []) };
+        ensures { (result ≡ true) ↔ (without_own (inner block.now (routes self.now)) ≡ []) };
 }
 
 /// An installed table, which also tells whether the routes inside a block leave a gap.
@@ -35,5 +35,5 @@ pub trait Installed: Table {
     /// Whether each address of the block is in a route strictly inside the block.
     fn is_covered(&self, block: &Path) -> bool
         requires { length block.now ≤ Self.width }
-        ensures { IsCovered result (Self.width - length block.now) (bare (inner block.now (Self.routes self.now))) };
+        ensures { IsCovered result (Self.width - length block.now) (without_own (inner block.now (Self.routes self.now))) };
 }

@@ -10,9 +10,9 @@ use Rattle.ipnet_addr.specs.Addresses.{Family}
 use Rattle.ipnet_addr.proofs.Members.{In}
 use Rattle.ipnet_blocks.specs.BitStrings.{begins, bits_cmp}
 use Rattle.ipnet_blocks.proofs.BitStrings.{begins_on, begins_take, take_begins}
-use Rattle.least_table.specs.Tables.{longer, longest, own}
+use Rattle.least_table.specs.Tables.{longer_route, longest_route, own}
 use Rattle.nearest_table.specs.Asked.{NoneInside, at, hop_if, shorter}
-use Rattle.least_table.specs.Wholes.{bare}
+use Rattle.least_table.specs.Wholes.{without_own}
 use Rattle.nearest_table.specs.Blocks.{around, inner}
 use Rattle.least_table.specs.Nearest.{same_string}
 use Rattle.nearest_table.proofs.Asked.{asked_law}
@@ -34,47 +34,47 @@ use Rattle.trie_core.proofs.Strings.{same, same-Decides}
 
 -- ---- the longest of some routes
 
-longer_sound : (d p q : List Bool × Option ℕ) → longer d (Some p) ≡ Some q → (d ≡ q) ⊎ (p ≡ q)
+longer_sound : (d p q : List Bool × Option ℕ) → longer_route d (Some p) ≡ Some q → (d ≡ q) ⊎ (p ≡ q)
 longer_sound d p q = go (nat_lt (length d.0) (length p.0))
   where
     go : (c : Bool) → cond c (Some p) (Some d) ≡ Some q → (d ≡ q) ⊎ (p ≡ q)
     go true e = inr (same_Some p q e)
     go false e = inl (same_Some d q e)
 
-longest_sound : (t : List (List Bool × Option ℕ)) (x : List Bool) (q : List Bool × Option ℕ) → longest t x ≡ Some q → In q t × (begins q.0 x ≡ true)
+longest_sound : (t : List (List Bool × Option ℕ)) (x : List Bool) (q : List Bool × Option ℕ) → longest_route t x ≡ Some q → In q t × (begins q.0 x ≡ true)
 longest_sound [] x q e = absurd (cc)
-longest_sound (d ∷ t) x q e = go (begins d.0 x) refl (longest t x) refl e (longest_sound t x q)
+longest_sound (d ∷ t) x q e = go (begins d.0 x) refl (longest_route t x) refl e (longest_sound t x q)
   where
     here : begins d.0 x ≡ true → d ≡ q → In q (d ∷ t) × (begins q.0 x ≡ true)
     here b z = (inl (sym z), subst (λ (r : List Bool × Option ℕ). begins r.0 x ≡ true) z b)
 
-    go : (c : Bool) → begins d.0 x ≡ c → (o : Option (List Bool × Option ℕ)) → longest t x ≡ o → cond c (longer d o) o ≡ Some q
-        → (longest t x ≡ Some q → In q t × (begins q.0 x ≡ true)) → In q (d ∷ t) × (begins q.0 x ≡ true)
+    go : (c : Bool) → begins d.0 x ≡ c → (o : Option (List Bool × Option ℕ)) → longest_route t x ≡ o → cond c (longer_route d o) o ≡ Some q
+        → (longest_route t x ≡ Some q → In q t × (begins q.0 x ≡ true)) → In q (d ∷ t) × (begins q.0 x ≡ true)
     go false b o l f more = let r = more (l ∙ f) in (inr r.0, r.1)
     go true b None l f more = here b (same_Some d q f)
     go true b (Some p) l f more = ⊎_elim (here b) (λ z. let r = more (l ∙ ap Some z) in (inr r.0, r.1)) (longer_sound d p q f)
 
-pub longest_none : (t : List (List Bool × Option ℕ)) (x : List Bool) → ((q : List Bool × Option ℕ) → In q t → begins q.0 x ≡ true → ⊥) → longest t x ≡ None
-longest_none t x none = go (longest t x) refl
+pub longest_none : (t : List (List Bool × Option ℕ)) (x : List Bool) → ((q : List Bool × Option ℕ) → In q t → begins q.0 x ≡ true → ⊥) → longest_route t x ≡ None
+longest_none t x none = go (longest_route t x) refl
   where
-    go : (o : Option (List Bool × Option ℕ)) → longest t x ≡ o → o ≡ None
+    go : (o : Option (List Bool × Option ℕ)) → longest_route t x ≡ o → o ≡ None
     go None e = refl
     go (Some q) e = let r = longest_sound t x q e in absurd (none q r.0 r.1)
 
 -- a route that contains x, where each other one that does is shorter
 pub longest_is : (t : List (List Bool × Option ℕ)) (x : List Bool) (r : List Bool × Option ℕ) → In r t → begins r.0 x ≡ true
-    → ((q : List Bool × Option ℕ) → In q t → begins q.0 x ≡ true → (q ≡ r) ⊎ (length q.0 < length r.0)) → longest t x ≡ Some r
+    → ((q : List Bool × Option ℕ) → In q t → begins q.0 x ≡ true → (q ≡ r) ⊎ (length q.0 < length r.0)) → longest_route t x ≡ Some r
 longest_is [] x r i b most = absurd i
 longest_is (d ∷ t) x r i b most = ⊎_elim first (λ j. later (longest_is t x r j b (λ q k. most q (inr k)))) i
   where
-    first : r ≡ d → longest (d ∷ t) x ≡ Some r
-    first e = ap (λ c. cond c (longer d (longest t x)) (longest t x)) (ap (λ (q : List Bool × Option ℕ). begins q.0 x) (sym e) ∙ b) ∙ go (longest t x) refl
+    first : r ≡ d → longest_route (d ∷ t) x ≡ Some r
+    first e = ap (λ c. cond c (longer_route d (longest_route t x)) (longest_route t x)) (ap (λ (q : List Bool × Option ℕ). begins q.0 x) (sym e) ∙ b) ∙ go (longest_route t x) refl
       where
         none_longer : (p : List Bool × Option ℕ) → (p ≡ r) ⊎ (length p.0 < length r.0) → length p.0 ≤ length d.0
         none_longer p (inl z) = let l = ap (λ (q : List Bool × Option ℕ). length q.0) (z ∙ e) in omega (arith, l)
         none_longer p (inr z) = let l = ap (λ (q : List Bool × Option ℕ). length q.0) e in omega (arith, l, z)
 
-        go : (o : Option (List Bool × Option ℕ)) → longest t x ≡ o → longer d o ≡ Some r
+        go : (o : Option (List Bool × Option ℕ)) → longest_route t x ≡ o → longer_route d o ≡ Some r
         go None l = ap Some (sym e)
         go (Some p) l =
             let s = longest_sound t x p l in
@@ -82,14 +82,14 @@ longest_is (d ∷ t) x r i b most = ⊎_elim first (λ j. later (longest_is t x 
             let f : nat_lt (length d.0) (length p.0) ≡ false = grind (arith, nat_tests, n) in
             ap (λ c. cond c (Some p) (Some d)) f ∙ ap Some (sym e)
 
-    later : longest t x ≡ Some r → longest (d ∷ t) x ≡ Some r
-    later rest = ap (λ o. cond (begins d.0 x) (longer d o) o) rest ∙ go (begins d.0 x) refl
+    later : longest_route t x ≡ Some r → longest_route (d ∷ t) x ≡ Some r
+    later rest = ap (λ o. cond (begins d.0 x) (longer_route d o) o) rest ∙ go (begins d.0 x) refl
       where
         pick : (c : Bool) → d ≡ r → cond c (Some r) (Some d) ≡ Some r
         pick true z = refl
         pick false z = ap Some z
 
-        go : (c : Bool) → begins d.0 x ≡ c → cond c (longer d (Some r)) (Some r) ≡ Some r
+        go : (c : Bool) → begins d.0 x ≡ c → cond c (longer_route d (Some r)) (Some r) ≡ Some r
         go false f = refl
         go true f = ⊎_elim
             (λ z. pick (nat_lt (length d.0) (length r.0)) z)
@@ -158,14 +158,14 @@ module _ (f : Family) (m : BitMap (List Choice)) (s : List Bool) where
   pub own_found : (o : Option (List Choice)) → o ≡ get m s → option_map hop_in o ≡ own (inner s routes)
   own_found o e = ap (option_map hop_in) (e ∙ get-entries m s) ∙ sym (at_found (entries m) s) ∙ ap (λ t. at t s) (sym is_listed) ∙ sym (asked_law routes s).0
 
-  leaf_from_map : NothingInside m s → bare (inner s routes) ≡ []
+  leaf_from_map : NothingInside m s → without_own (inner s routes) ≡ []
   leaf_from_map none = (asked_law routes s).1.1 (subst (λ t. NoneInside t s) (sym is_listed) (none_inside s (entries m)
       (λ e i b. ⊎_elim
       (λ q. q)
       (λ q. let g = goes_on s e.0 b (λ z. q (sym z)) in absurd (let z = sym (get_of m e.0 e.1 i) ∙ ap (get m) (sym g.2) ∙ none g.0 g.1 in cc))
       (string_or_not e.0 s))))
 
-  map_from_leaf : bare (inner s routes) ≡ [] → NothingInside m s
+  map_from_leaf : without_own (inner s routes) ≡ [] → NothingInside m s
   map_from_leaf h b k = go (get m (s ++ b ∷ k)) refl
     where
       go : (o : Option (List Choice)) → get m (s ++ b ∷ k) ≡ o → o ≡ None
@@ -177,7 +177,7 @@ module _ (f : Family) (m : BitMap (List Choice)) (s : List Bool) where
           absurd (omega (arith, l, length-append s (b ∷ k)))
 
   -- whether a route is strictly inside
-  pub leaf_found : NothingInside m s ↔ (bare (inner s routes) ≡ [])
+  pub leaf_found : NothingInside m s ↔ (without_own (inner s routes) ≡ [])
   leaf_found = (leaf_from_map, map_from_leaf)
 
   -- the longest route of those around
@@ -203,8 +203,8 @@ module _ (f : Family) (m : BitMap (List Choice)) (s : List Bool) where
           omega (arith, l, length_up),
         )
 
-    as_listed : (o : Option (List Bool × Option ℕ)) → longest (shorter (length s) (map entry_in (entries m))) s ≡ o → hop_if o ≡ around s None routes
-    as_listed o e = ap hop_if (sym e ∙ ap (λ t. longest (shorter (length s) t) s) (sym is_listed)) ∙ sym (asked_law routes s).2
+    as_listed : (o : Option (List Bool × Option ℕ)) → longest_route (shorter (length s) (map entry_in (entries m))) s ≡ o → hop_if o ≡ around s None routes
+    as_listed o e = ap hop_if (sym e ∙ ap (λ t. longest_route (shorter (length s) t) s) (sym is_listed)) ∙ sym (asked_law routes s).2
 
     pub none_around : NoBeginning m up → None ≡ around s None routes
     none_around none = as_listed None (longest_none _ s (λ q i b. let t = around_s q i b in absurd (let z = sym t.2 ∙ none (length q.0) t.3 in cc)))

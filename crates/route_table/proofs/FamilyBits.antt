@@ -26,12 +26,12 @@ use Rattle.route_table.proofs.FlatPieces.{begins_host, has_begun, bits_at}
 use Rattle.route_table.proofs.Strings.{same_string}
 
 -- no block of a table has more bits than an address
-pub lengths : (w : ℕ) (t : List (List Bool × Option ℕ)) → bits.IsTable w t → (e : List Bool × Option ℕ) → In e t → length e.0 ≤ w
+pub lengths : (w : ℕ) (t : List (List Bool × Option ℕ)) → bits.IsBitTable w t → (e : List Bool × Option ℕ) → In e t → length e.0 ≤ w
 lengths w [] ok e i = absurd i
 lengths w (q ∷ t) ok e (inl h) = subst (λ (p : List Bool × Option ℕ). length p.0 ≤ w) (sym h) ok.0
 lengths w (q ∷ t) ok e (inr i) = lengths w t ok.2 e i
 
-longer_entry : (r : Route) (m : Option Route) → bits.longer (entry_of r) (option_map entry_of m) ≡ Some (entry_of (longer r m))
+longer_entry : (r : Route) (m : Option Route) → bits.longer_route (entry_of r) (option_map entry_of m) ≡ Some (entry_of (longer r m))
 longer_entry r None = refl
 longer_entry r (Some s) =
     rw (length-digits r.block.len r.block.quotient, length-digits s.block.len s.block.quotient)
@@ -44,7 +44,7 @@ longer_entry r (Some s) =
 -- the longest match of an address
 match_entry : (x : Address) → IsAddress x → (M : List Route)
     → ((r : Route) → In r M → IsBlock r.block × (r.block.family ≡ x.family))
-    → bits.longest (entries_of M) (bit_string (host x)) ≡ option_map entry_of (match_of M (host x))
+    → bits.longest_route (entries_of M) (bit_string (host x)) ≡ option_map entry_of (match_of M (host x))
 match_entry x a [] ok = refl
 match_entry x a (r ∷ M) ok = go (is_inside (host x) r.block) same (match_entry x a M (λ s i. ok s (inr i)))
   where
@@ -59,13 +59,13 @@ match_entry x a (r ∷ M) ok = go (is_inside (host x) r.block) same (match_entry
         (λ t. begins_host r.block x p a e (has_from_test x a r p t))
 
     go : (c : Bool) → begins (bit_string r.block) (bit_string (host x)) ≡ c
-        → bits.longest (entries_of M) (bit_string (host x)) ≡ option_map entry_of (match_of M (host x))
-        → bits.longest (entries_of (r ∷ M)) (bit_string (host x)) ≡ option_map entry_of
+        → bits.longest_route (entries_of M) (bit_string (host x)) ≡ option_map entry_of (match_of M (host x))
+        → bits.longest_route (entries_of (r ∷ M)) (bit_string (host x)) ≡ option_map entry_of
         (longest (cond c (r ∷ covering M (host x)) (covering M (host x))))
     go true t k = rw (t, k) (longer_entry r (match_of M (host x)))
     go false t k = rw t k
 
-hop_entry : (s : Option ℕ) (m : Option Route) → bits.hop_of s (option_map entry_of m) ≡ inherited s m
+hop_entry : (s : Option ℕ) (m : Option Route) → bits.matched_hop s (option_map entry_of m) ≡ inherited s m
 hop_entry s None = refl
 hop_entry s (Some r) = refl
 
@@ -74,8 +74,8 @@ module _ (f : Family) where
   AllOf M = (r : Route) → In r M → r.block.family ≡ f
 
   pub hop_bits : (s : Option ℕ) (M : List Route) (x : Address) → IsTable M → AllOf M → IsAddress x → x.family ≡ f
-      → bits.hop_under s (entries_of M) (bit_string (host x)) ≡ hop_under s M x
-  hop_bits s M x t all a e = ap (bits.hop_of s) (match_entry x a M (λ r i. ((sound M t r i).0, all r i ∙ sym e)))
+      → bits.hop_inheriting s (entries_of M) (bit_string (host x)) ≡ hop_under s M x
+  hop_bits s M x t all a e = ap (bits.matched_hop s) (match_entry x a M (λ r i. ((sound M t r i).0, all r i ∙ sym e)))
       ∙ hop_entry s (match_of M (host x))
 
   absent : (b : Block) (M : List Route) → IsBlock b → b.family ≡ f
@@ -94,7 +94,7 @@ module _ (f : Family) where
   pub blocks_of : (M : List Route) → IsTable M → AllOf M → Blocks M
   blocks_of M t all r i = ((sound M t r i).0, all r i)
 
-  pub table_entries : (M : List Route) → Blocks M → Rising Sooner M → bits.IsTable (width f) (entries_of M)
+  pub table_entries : (M : List Route) → Blocks M → Rising Sooner M → bits.IsBitTable (width f) (entries_of M)
   table_entries [] k up = tt
   table_entries (r ∷ M) k up =
       let t = k r (inl refl) in
@@ -142,17 +142,17 @@ module _ (f : Family) where
       → hops s ≡ hops_of f h s) where
     -- a table of the family's addresses gives the hops as bit strings
     pub gives_bits : (M : List Route) → AllOf M → GivesInside h (family_block f) None M
-        → bits.Gives (width f) hops None (entries_of M)
+        → bits.GivesHops (width f) hops None (entries_of M)
     gives_bits M all g = record {
       table = table_entries M (blocks_of M g.table all) (rising M g.table);
       same = λ s e.
           let x = address_at f s in
           let a : IsAddress x = number_bound (width f) s in
-          ap (bits.hop (entries_of M)) (sym (bits_at f s e)) ∙ hop_bits None M x g.table all a refl ∙ g.same x (in_family x a)
+          ap (bits.table_hop (entries_of M)) (sym (bits_at f s e)) ∙ hop_bits None M x g.table all a refl ∙ g.same x (in_family x a)
           ∙ sym (same s e);
     }
 
-    pub family_gives : (N : List Route) → IsTable N → AllOf N → bits.Gives (width f) hops None (entries_of N)
+    pub family_gives : (N : List Route) → IsTable N → AllOf N → bits.GivesHops (width f) hops None (entries_of N)
         → GivesInside h (family_block f) None N
     family_gives N t all gives = record {
       table = t;

@@ -36,7 +36,7 @@ use Rattle.route_table.proofs.PartBits.{bits_of, length-between, part, part_all,
 
 -- the routes of a side, as bit strings
 pub side_bits : (f : Family) (T : List Stored) → IsFamilyTable f T
-    → bits.IsTable (width f) (entries_of (routes_of T)) × IsInOrder (entries_of (routes_of T))
+    → bits.IsBitTable (width f) (entries_of (routes_of T)) × IsInOrder (entries_of (routes_of T))
 side_bits f T side =
     let t = routes_are_table T side.table in
     let k = blocks_of f (routes_of T) t (λ r i. let u = In-map best_route T r i in ap (λ (q : Route). q.block.family) u.2
@@ -61,31 +61,31 @@ module _ (M C rs : List Route) (old : IsTable M) (changes : Changes rs) (told : 
 
     made_is_table : IsTable made_routes
     made_is_table =
-        new_is_table f M old made_table es (MakeNearest.edits made.0) (near.IsNearest.gives (MakeNearest.nearest made.0)).table
+        new_is_table f M old made_table es (MakeNearest.edits made.0) (near.IsNearestTable.gives (MakeNearest.nearest made.0)).table
         (MakeNearest.order made.0) made.1
 
     made_all : AllOf f made_routes
     made_all =
-        new_all f M old made_table es (MakeNearest.edits made.0) (near.IsNearest.gives (MakeNearest.nearest made.0)).table
+        new_all f M old made_table es (MakeNearest.edits made.0) (near.IsNearestTable.gives (MakeNearest.nearest made.0)).table
         (MakeNearest.order made.0) made.1
 
     made_gives : GivesInside hop (family_block f) None made_routes
     made_gives =
         family_gives f hop (told_hop (bits_of f C) (bits_of f M))
         (told_bits f M C rs old changes told) made_routes made_is_table made_all
-        (subst (bits.Gives (width f) (told_hop (bits_of f C) (bits_of f M)) None)
+        (subst (bits.GivesHops (width f) (told_hop (bits_of f C) (bits_of f M)) None)
         (sym (new_entries f M old made_table es (MakeNearest.edits made.0)))
-        (near.IsNearest.gives (MakeNearest.nearest made.0)))
+        (near.IsNearestTable.gives (MakeNearest.nearest made.0)))
 
     -- no table with the new hops is nearer in this family
     made_nearest : (L : List Route) → HasHops hop L
         → near.distance (bits_of f M) made_table ≤ near.distance (bits_of f M) (bits_of f L)
     made_nearest L l =
-        near.IsNearest.nearest (MakeNearest.nearest made.0) (bits_of f L)
+        near.IsNearestTable.nearest (MakeNearest.nearest made.0) (bits_of f L)
         (gives_bits f hop (told_hop (bits_of f C) (bits_of f M)) (told_bits f M C rs old changes told) (part f L) (part_all f L)
         (part_gives hop L l f))
 
-    count_installs : length (routes_in f es) ≡ length (near.missing (bits_of f M) made_table)
+    count_installs : length (routes_in f es) ≡ length (near.missing_routes (bits_of f M) made_table)
     count_installs = length-map (installed_in es) (installed_route f) ∙ ap length (AreEdits.installs (MakeNearest.edits made.0))
 
     module _ (N : List Route) (new : IsTable N) (here : part f N ≡ made_routes) where
@@ -93,12 +93,12 @@ module _ (M C rs : List Route) (old : IsTable M) (changes : Changes rs) (told : 
       abbrev gone : List Route
       gone = filter (λ r. not (is_stored N r.block)) (part f M)
 
-      gone_entries : near.surplus (bits_of f M) made_table ≡ entries_of gone
+      gone_entries : near.surplus_routes (bits_of f M) made_table ≡ entries_of gone
       gone_entries =
-          ap (near.surplus (bits_of f M)) (sym (ap entries_of here ∙ new_entries f M old made_table es (MakeNearest.edits made.0)))
+          ap (near.surplus_routes (bits_of f M)) (sym (ap entries_of here ∙ new_entries f M old made_table es (MakeNearest.edits made.0)))
           ∙ surplus_bits M N old new f
 
-      count_gone : length gone ≡ length (near.surplus (bits_of f M) made_table)
+      count_gone : length gone ≡ length (near.surplus_routes (bits_of f M) made_table)
       count_gone = sym (ap length gone_entries ∙ length-map gone entry_of)
 
       removes_gone : removes gone ≡ map Remove (blocks_in f es)

@@ -16,7 +16,7 @@ use Rattle.ipnet_blocks.specs.Networks.{Network, block_of}
 use Rattle.ipnet.specs.IpNets.{block}
 use Rattle.ipnet.specs.declared.ip_net.IpNet.{IpNet}
 use Rattle.ipnet.specs.declared.ip_net.IpNet.TheVariants.{V4, V6}
-use Rattle.least_table.specs.Pieces.{AreDisjoint, hop_at}
+use Rattle.least_table.specs.Pieces.{AreDisjoint, piece_hop}
 use Rattle.trie_core.specs.Bits.{number_from}
 use Rattle.trie_core.proofs.Longer.{own_digits}
 use Rattle.trie_core.proofs.Numbers.{number_bound}
@@ -34,9 +34,9 @@ Rising-map f S R (x ∷ xs) h up = (
 )
 
 -- the piece that `hop_at` finds
-found : (qs : List (List Bool × ℕ)) (s : List Bool) → MatchOption (hop_at qs s) ((q : List Bool × ℕ) → In q qs → begins q.0 s ≡ true → ⊥) (λ k. (q : List Bool × ℕ) × In q qs × (begins q.0 s ≡ true) × (q.1 ≡ k))
+found : (qs : List (List Bool × ℕ)) (s : List Bool) → MatchOption (piece_hop qs s) ((q : List Bool × ℕ) → In q qs → begins q.0 s ≡ true → ⊥) (λ k. (q : List Bool × ℕ) × In q qs × (begins q.0 s ≡ true) × (q.1 ≡ k))
 found [] s = λ q i e. absurd i
-found (p ∷ qs) s = go (begins p.0 s) refl (hop_at qs s) (found qs s)
+found (p ∷ qs) s = go (begins p.0 s) refl (piece_hop qs s) (found qs s)
   where
     go : (b : Bool) → begins p.0 s ≡ b → (o : Option ℕ) → MatchOption o ((q : List Bool × ℕ) → In q qs → begins q.0 s ≡ true → ⊥) (λ k. (q : List Bool × ℕ) × In q qs × (begins q.0 s ≡ true) × (q.1 ≡ k))
         → MatchOption (cond b (Some p.1) o) ((q : List Bool × ℕ) → In q (p ∷ qs) → begins q.0 s ≡ true → ⊥) (λ k. (q : List Bool × ℕ) × In q (p ∷ qs) × (begins q.0 s ≡ true) × (q.1 ≡ k))
@@ -82,8 +82,8 @@ module _ (h : Address → Option ℕ) (ps : List Piece) (flat : IsFlat h ps) whe
 
     -- the hop of an address is the one of the piece that holds it
     module _ (x : Address) (a : IsAddress x) (e : x.family ≡ f) where
-      told : hop_at (pieces_of f ps) (bit_string (host x)) ≡ h x
-      told = go (hop_at (pieces_of f ps) (bit_string (host x))) (h x) refl refl (found (pieces_of f ps) (bit_string (host x)))
+      told : piece_hop (pieces_of f ps) (bit_string (host x)) ≡ h x
+      told = go (piece_hop (pieces_of f ps) (bit_string (host x))) (h x) refl refl (found (pieces_of f ps) (bit_string (host x)))
         where
           some : (k : ℕ) → (q : List Bool × ℕ) × In q (pieces_of f ps) × (begins q.0 (bit_string (host x)) ≡ true) × (q.1 ≡ k) → h x ≡ Some k
           some k w =
@@ -101,9 +101,9 @@ module _ (h : Address → Option ℕ) (ps : List Piece) (flat : IsFlat h ps) whe
               let g : Block.family (Piece.block p) ≡ x.family = sym t.2.0 in
               n (entry p) (map_In entry (filter (in_family f) ps) p (In-filter (in_family f) ps p t.1 (test_from_family _ f (g ∙ e)))) (begins_host (Piece.block p) x (piece_is_block h ps flat p t.1) a g t.2)
 
-          go : (o o' : Option ℕ) → hop_at (pieces_of f ps) (bit_string (host x)) ≡ o → h x ≡ o'
+          go : (o o' : Option ℕ) → piece_hop (pieces_of f ps) (bit_string (host x)) ≡ o → h x ≡ o'
               → MatchOption o ((q : List Bool × ℕ) → In q (pieces_of f ps) → begins q.0 (bit_string (host x)) ≡ true → ⊥) (λ k. (q : List Bool × ℕ) × In q (pieces_of f ps) × (begins q.0 (bit_string (host x)) ≡ true) × (q.1 ≡ k))
-              → hop_at (pieces_of f ps) (bit_string (host x)) ≡ h x
+              → piece_hop (pieces_of f ps) (bit_string (host x)) ≡ h x
           go (Some k) o' u v m = u ∙ sym (some k m)
           go None None u v m = u ∙ sym v
           go None (Some k) u v m = absurd (none k v m)
@@ -111,7 +111,7 @@ module _ (h : Address → Option ℕ) (ps : List Piece) (flat : IsFlat h ps) whe
     pub are_pieces : ArePieces f h (pieces_of f ps)
     are_pieces = record {
       disjoint = pairs_from_Rising Apart (pieces_of f ps) rising;
-      same = λ s e. ap (hop_at (pieces_of f ps)) (sym (bits_at f s e)) ∙ told (address_at f s) (number_bound (width f) s) refl;
+      same = λ s e. ap (piece_hop (pieces_of f ps)) (sym (bits_at f s e)) ∙ told (address_at f s) (number_bound (width f) s) refl;
     }
 
 -- ---- the pieces of each family as the flat list is walked

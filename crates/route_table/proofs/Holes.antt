@@ -11,7 +11,7 @@ use Rattle.ipnet_blocks.proofs.BlockLaws.{same_sets}
 use Rattle.ipnet_blocks.proofs.Maximals.{member_is_address}
 use Rattle.ipnet_blocks.proofs.Strings.{begins_from_inside, inside_from_begins, length-digits}
 use Rattle.nearest_table.specs.Asked.{NoneHolds}
-use Rattle.least_table.specs.Wholes.{bare}
+use Rattle.least_table.specs.Wholes.{without_own}
 use Rattle.nearest_table.specs.Blocks.{IsCovered, inner}
 use Rattle.nearest_table.proofs.Asked.{asked_law}
 use Rattle.ipnet_blocks.specs.Networks.{Network, block_of}
@@ -81,7 +81,7 @@ module _ (f : Family) (M : List Route) (table : IsTable M) (all : AllOf f M) (s 
     }
 
   -- whether the network governs none is whether the block is covered
-  pub covered_is : (v : Bool) → GovernsNone v M n → IsCovered v (width f - length s) (bare (inner s (entries_of M)))
+  pub covered_is : (v : Bool) → GovernsNone v M n → IsCovered v (width f - length s) (without_own (inner s (entries_of M)))
   covered_is true none = λ x l free.
       let long : length (s ++ x) ≡ width f = omega (arith, l, short, length-append s x) in
       let here = bits_at f (s ++ x) long in

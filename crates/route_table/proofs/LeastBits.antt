@@ -12,7 +12,7 @@ use Rattle.ipnet_blocks.proofs.NetworkBlocks.{block_round_trip}
 use Rattle.ipnet_blocks.proofs.Order.{order_of_strings}
 use Rattle.ipnet.specs.IpNets.{block, family, parts, net_in, network_at}
 use Rattle.ipnet.specs.declared.ip_net.IpNet.{IpNet}
-use Rattle.least_table.specs.Pieces.{hop_at, strings}
+use Rattle.least_table.specs.Pieces.{piece_hop, strings}
 use Rattle.least_table.specs.Tables as bits
 use Rattle.trie_core.specs.Bits.{number_from}
 use Rattle.route_choices.specs.Choices.{default_preference}
@@ -38,14 +38,14 @@ length-map : (M : List Route) → length (entries_of M) ≡ length M
 length-map [] = refl
 length-map (r ∷ M) = ap suc (length-map M)
 
-module _ (f : Family) (h : Address → Option ℕ) (ps : List (List Bool × ℕ)) (pieces : ArePieces f h ps) (N : List Route) (t : IsTable N) (all : AllOf f N) (least : bits.IsLeast (width f) (hop_at ps) (entries_of N)) where
+module _ (f : Family) (h : Address → Option ℕ) (ps : List (List Bool × ℕ)) (pieces : ArePieces f h ps) (N : List Route) (t : IsTable N) (all : AllOf f N) (least : bits.IsLeastTable (width f) (piece_hop ps) (entries_of N)) where
   pub least_gives : GivesInside h (family_block f) None N
-  least_gives = family_gives f h (hop_at ps) pieces.same N t all least.gives
+  least_gives = family_gives f h (piece_hop ps) pieces.same N t all least.gives
 
   pub family_fewest : IsFewest h (family_block f) None (length N)
   family_fewest = record {
     reached = (N, least_gives, refl);
-    least = λ L g. omega (arith, length-map N, length-map L, least.fewest (entries_of L) (gives_bits f h (hop_at ps) pieces.same L (all_inside f h (hop_at ps) pieces.same L g) g));
+    least = λ L g. omega (arith, length-map N, length-map L, least.fewest (entries_of L) (gives_bits f h (piece_hop ps) pieces.same L (all_inside f h (piece_hop ps) pieces.same L g) g));
   }
 
 -- ---- networks of one family as keys, as routes
@@ -107,9 +107,9 @@ module _ (f : Family) {K : Type 0} (bits_in : K → List Bool) (of_bits : List B
   module _ (fits : K → Bool) (w : ℕ) (wide : w ≡ width f) (ps : List (List Bool × ℕ)) (table : List (K × Option ℕ))
       (networks : All (λ r. IsTrue (fits r.0) × (r.0 ≡ of_bits (bits_in r.0)) × IfSome r.1 (λ n. n < 2 ^ 32)) table)
       (ordered : AllPairs (λ r s. bits_cmp r.0 s.0 ≡ Less) (strings bits_in table))
-      (least : bits.IsLeast w (hop_at ps) (strings bits_in table)) where
-    least' : bits.IsLeast (width f) (hop_at ps) (strings bits_in table)
-    least' = subst (λ v. bits.IsLeast v (hop_at ps) (strings bits_in table)) wide least
+      (least : bits.IsLeastTable w (piece_hop ps) (strings bits_in table)) where
+    least' : bits.IsLeastTable (width f) (piece_hop ps) (strings bits_in table)
+    least' = subst (λ v. bits.IsLeastTable v (piece_hop ps) (strings bits_in table)) wide least
 
     sound_at : (r : K × Option ℕ) → In r table → IsTrue (fits r.0) × (r.0 ≡ of_bits (bits_in r.0)) × IfSome r.1 (λ n. n < 2 ^ 32)
     sound_at r i = In-from_All (λ (q : K × Option ℕ). IsTrue (fits q.0) × (q.0 ≡ of_bits (bits_in q.0)) × IfSome q.1 (λ n. n < 2 ^ 32)) table networks r i
@@ -131,7 +131,7 @@ module _ (f : Family) {K : Type 0} (bits_in : K → List Bool) (of_bits : List B
       in_family = All-from_In (λ (u : IpNet × Hop). family u.0 ≡ f) (items_of f parts_in table) (λ u i. let t = item u i in subst (λ (v : IpNet × Hop). family v.0 ≡ f) (sym t.2) (net_family f (parts_in (t.0).0)));
       truncated = All-from_In (λ (u : IpNet × Hop). IsTruncated (family u.0) (parts u.0)) (items_of f parts_in table) (λ u i. let t = item u i in
           subst (λ (v : IpNet × Hop). IsTruncated (family v.0) (parts v.0)) (sym t.2) (subst (λ (n : IpNet). IsTruncated (family n) (parts n)) (sym (ok t.0 t.1).1) (truncated_at (block_at f (bits_in (t.0).0)))));
-      least = subst (λ (t : List (List Bool × Option ℕ)). bits.IsLeast (width f) (hop_at ps) t) (sym (entries_are table ok)) least';
+      least = subst (λ (t : List (List Bool × Option ℕ)). bits.IsLeastTable (width f) (piece_hop ps) t) (sym (entries_are table ok)) least';
     }
       where
         item : (u : IpNet × Hop) → In u (items_of f parts_in table) → (r : K × Option ℕ) × In r table × (u ≡ (net_in f (parts_in r.0), hop_from r.1))
@@ -140,7 +140,7 @@ module _ (f : Family) {K : Type 0} (bits_in : K → List Bool) (of_bits : List B
   -- for all pieces of which this is said
   pub results_are_least : (fits : K → Bool) (w : ℕ) → w ≡ width f → (Q : List (List Bool × ℕ) → Type 0) {E : Type 0} (result : Result (List (K × Option ℕ)) E)
       → IfOk result (λ table. All (λ r. IsTrue (fits r.0) × (r.0 ≡ of_bits (bits_in r.0)) × IfSome r.1 (λ n. n < 2 ^ 32)) table)
-      → IfOk result (λ table. AllPairs (λ r s. bits_cmp r.0 s.0 ≡ Less) (strings bits_in table)) → IfOk result (λ table. (ps : List (List Bool × ℕ)) → Q ps → bits.IsLeast w (hop_at ps) (strings bits_in table))
+      → IfOk result (λ table. AllPairs (λ r s. bits_cmp r.0 s.0 ≡ Less) (strings bits_in table)) → IfOk result (λ table. (ps : List (List Bool × ℕ)) → Q ps → bits.IsLeastTable w (piece_hop ps) (strings bits_in table))
       → IfOk result (λ table. (ps : List (List Bool × ℕ)) → Q ps → AreLeast f ps (items_of f parts_in table))
   results_are_least fits w wide Q (Ok table) networks ordered least = λ ps q. are_least fits w wide ps table networks ordered (least ps q)
   results_are_least fits w wide Q (Err e) networks ordered least = tt

@@ -107,12 +107,12 @@ module _ (f : Family) where
         ∙ ap (map (kept (part f M)))
         (same_kept (λ e. not (is_held M (kept (part f M) e))) (λ e. not (near.has (bits_of f M) e)) u
         (λ e i. ap not (sym (held_same e))))
-        ∙ map_same (kept (part f M)) (installed_route f) (near.missing (bits_of f M) u)
+        ∙ map_same (kept (part f M)) (installed_route f) (near.missing_routes (bits_of f M) u)
         (λ e i. kept_new (part f M) e (false_from_ne_true (near.has (bits_of f M) e)
         (not_cases (near.has (bits_of f M) e) (In-from_filter (λ d. not (near.has (bits_of f M) d)) u e i).1)))
         ∙ ap (map (installed_route f)) (sym edits.installs)
 
-    module _ (ok : bits.IsTable (width f) u) (order : IsInOrder u) (hops : All (λ r. IsHop r.hop) (routes_in f es)) where
+    module _ (ok : bits.IsBitTable (width f) u) (order : IsInOrder u) (hops : All (λ r. IsHop r.hop) (routes_in f es)) where
       new_sound : (e : List Bool × Option ℕ) → In e u → Sound (kept (part f M) e) × ((kept (part f M) e).block.family ≡ f)
       new_sound e i = ⊎_elim
           (λ t. let j = kept_held (part f M) e t in (

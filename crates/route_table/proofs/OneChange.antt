@@ -2,9 +2,9 @@
 use Rattle.std.proofs.Common.{◌≡◌, ℕ, suc, ◌<◌, ◌≤◌, ◌↔◌, Bool, true, false, cond, not, nat_lt, List, [], ◌∷◌, length, Option, Some, None, refl, sym, ap, ◌∙◌, arith}
 use Rattle.std.proofs.lemmas.Bool.{le-ltb, lt-ltb}
 use Rattle.ipnet_blocks.specs.BitStrings.{begins}
-use Rattle.least_table.specs.Tables.{longest, own}
+use Rattle.least_table.specs.Tables.{longest_route, own}
 use Rattle.nearest_table.specs.Asked.{hop_if}
-use Rattle.least_table.specs.Wholes.{bare}
+use Rattle.least_table.specs.Wholes.{without_own}
 use Rattle.nearest_table.specs.Blocks.{around, inner}
 use Rattle.least_table.specs.Nearest.{same_string}
 use Rattle.nearest_table.proofs.Asked.{asked_law}
@@ -46,24 +46,24 @@ module _ (c : List Bool) (k : Option ℕ) (b : List Bool) where
   pub own_told : length b ≡ length c → cond (begins c b) (Some k) None ≡ own (inner b one)
   own_told e = sym ((asked_law one b).0 ∙ ap (λ v. cond v (Some k) None) (same_as_begun c b e))
 
-  by_shorter : around b None one ≡ hop_if (longest (cond (nat_lt (length c) (length b)) one []) b)
+  by_shorter : around b None one ≡ hop_if (longest_route (cond (nat_lt (length c) (length b)) one []) b)
   by_shorter = (asked_law one b).2
 
   pub around_none : length b ≤ length c → None ≡ around b None one
-  around_none h = sym (by_shorter ∙ ap (λ v. hop_if (longest (cond v one []) b)) (le-ltb _ _ h))
+  around_none h = sym (by_shorter ∙ ap (λ v. hop_if (longest_route (cond v one []) b)) (le-ltb _ _ h))
 
   pub around_told : length c < length b → cond (begins c b) (Some k) None ≡ around b None one
-  around_told h = sym (by_shorter ∙ ap (λ v. hop_if (longest (cond v one []) b)) (lt-ltb _ _ h) ∙ go (begins c b))
+  around_told h = sym (by_shorter ∙ ap (λ v. hop_if (longest_route (cond v one []) b)) (lt-ltb _ _ h) ∙ go (begins c b))
     where
       go : (v : Bool) → hop_if (cond v (Some (c, k)) None) ≡ cond v (Some k) None
       go true = refl
       go false = refl
 
   -- nothing is strictly inside a block that is not shorter
-  pub leaf_long : length c ≤ length b → bare (inner b one) ≡ []
+  pub leaf_long : length c ≤ length b → without_own (inner b one) ≡ []
   leaf_long h = (asked_law one b).1.1 ((λ e. begun_same b c e h), tt)
 
   -- something is strictly inside a shorter block exactly if it contains the network
-  pub leaf_short : length b < length c → (v : Bool) → (v ≡ true) ↔ (begins b c ≡ true) → (not v ≡ true) ↔ (bare (inner b one) ≡ [])
+  pub leaf_short : length b < length c → (v : Bool) → (v ≡ true) ↔ (begins b c ≡ true) → (not v ≡ true) ↔ (without_own (inner b one) ≡ [])
   leaf_short h true m = ((λ e. cc), λ leaf. let z = ap length (((asked_law one b).1.0 leaf).0 (m.0 refl)) in absurd (omega (arith, h, z)))
   leaf_short h false m = ((λ e. (asked_law one b).1.1 ((λ f. let z = m.1 f in cc), tt)), λ leaf. refl)

@@ -27,7 +27,7 @@ all_none : (P : Route → Type 0) → All P []
 all_none P = All-from_In P [] (λ q i. absurd i)
 
 -- the edits of a family without changes
-pub no_edits : (w : ℕ) (t : List (List Bool × Option ℕ)) (es : List Edit) → bits.IsTable w t → IsInOrder t → es ≡ [] → MakeNearest w [] t es × AreWithin w es
+pub no_edits : (w : ℕ) (t : List (List Bool × Option ℕ)) (es : List Edit) → bits.IsBitTable w t → IsInOrder t → es ≡ [] → MakeNearest w [] t es × AreWithin w es
 no_edits w t es table order e = let made = subst (MakeNearest w [] t) (sym e) (made_none w t table order) in (made, edits_within w [] t es table made)
 
 module _ (r : Route) (block : IsBlock r.block) (hop : IsHop r.hop) (M M4 M6 : List Route) (installed : AreFamilies M M4 M6) (es4 es6 : List Edit) where

@@ -46,7 +46,7 @@ overlay_under (r ∷ rs) C t c s x a =
 
 -- the hop of an address by the routes of its family
 part_bits : (f : Family) (N : List Route) → IsTable N → (s : Option ℕ) (x : Address) → IsAddress x → x.family ≡ f
-    → bits.hop_under s (bits_of f N) (bit_string (host x)) ≡ hop_under s N x
+    → bits.hop_inheriting s (bits_of f N) (bit_string (host x)) ≡ hop_under s N x
 part_bits f N t s x a e = let g = part_hops N t f s in
     hop_bits f s (part f N) x g.table (part_all f N) a e ∙ g.same x (subst (λ k. HasAddress (family_block k) x) e (in_family x a))
 
@@ -59,7 +59,7 @@ told_bits f M C rs m c e s l =
     let empty : IsTable [] = table_of [] (λ r i. absurd i) tt in
     let t : IsTable C = subst IsTable (sym e) (overlay_is_table rs [] empty c) in
     ap (told_hop (bits_of f C) (bits_of f M)) (sym (bits_at f s l))
-    ∙ ap (λ k. bits.hop_under k (bits_of f C) (bit_string (host x))) (part_bits f M m None x a refl ∙ hop_is M x)
+    ∙ ap (λ k. bits.hop_inheriting k (bits_of f C) (bit_string (host x))) (part_bits f M m None x a refl ∙ hop_is M x)
     ∙ part_bits f C t (hop_at M x) x a refl
     ∙ ap (λ N. hop_under (hop_at M x) N x) e ∙ overlay_under rs [] empty c (hop_at M x) x a
     ∙ sym (painted_all_hops M rs m c x a)

@@ -89,7 +89,7 @@ string-true (false ∷ b) (true ∷ c) e = cc
 
 -- whether two entries are the same
 abbrev pub same_entry : List Bool × Option ℕ → List Bool × Option ℕ → Bool
-same_entry q e = near.same_string q.0 e.0 && hops.same_hop q.1 e.1
+same_entry q e = near.same_string q.0 e.0 && hops.is_same_hop q.1 e.1
 
 pub entry-refl : (e : List Bool × Option ℕ) → same_entry e e ≡ true
 entry-refl e = and_from _ _ (string-refl e.0) (same_hop-refl e.1)
@@ -150,7 +150,7 @@ length-between M L = length-append (installs (reverse (missing M L))) (removes (
 
 module _ (M L : List Route) (old : IsTable M) (new : IsTable L) where
   pub surplus_bits : (f : Family)
-      → near.surplus (bits_of f M) (bits_of f L) ≡ entries_of (filter (λ r. not (is_stored L r.block)) (part f M))
+      → near.surplus_routes (bits_of f M) (bits_of f L) ≡ entries_of (filter (λ r. not (is_stored L r.block)) (part f M))
   surplus_bits f = filter_map_swap entry_of (λ e. not (near.stores (bits_of f L) e.0)) (part f M)
       ∙ ap entries_of
       (same_kept (λ r. not (near.stores (bits_of f L) (bit_string r.block))) (λ r. not (is_stored L r.block)) (part f M)
@@ -158,13 +158,13 @@ module _ (M L : List Route) (old : IsTable M) (new : IsTable L) where
       (sym (stored_bits f L new r.block (sound M old r (In-from_filter (λ q. is_inside q.block (family_block f)) M r i).0).0
       (part_all f M r i)))))
 
-  few_surplus : (f : Family) → length (near.surplus (bits_of f M) (bits_of f L)) ≡ length (part f (surplus M L))
+  few_surplus : (f : Family) → length (near.surplus_routes (bits_of f M) (bits_of f L)) ≡ length (part f (surplus M L))
   few_surplus f = ap length (surplus_bits f) ∙ length-map (filter (λ r. not (is_stored L r.block)) (part f M)) entry_of
       ∙ ap length (kept_swap (λ r. not (is_stored L r.block)) (λ r. is_inside r.block (family_block f)) M)
 
-  few_missing : (f : Family) → length (near.missing (bits_of f M) (bits_of f L)) ≤ length (part f (missing M L))
+  few_missing : (f : Family) → length (near.missing_routes (bits_of f M) (bits_of f L)) ≤ length (part f (missing M L))
   few_missing f =
-      let e : length (near.missing (bits_of f M) (bits_of f L)) ≡ length
+      let e : length (near.missing_routes (bits_of f M) (bits_of f L)) ≡ length
       (filter (λ r. not (near.has (bits_of f M) (entry_of r))) (part f L)) =
       ap length (filter_map_swap entry_of (λ e. not (near.has (bits_of f M) e)) (part f L))
       ∙ length-map (filter (λ r. not (near.has (bits_of f M) (entry_of r))) (part f L)) entry_of in

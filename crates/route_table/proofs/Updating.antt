@@ -11,10 +11,10 @@ use Rattle.ipnet_blocks.specs.Blocks.{IsBlock, bit_string}
 use Rattle.ipnet_blocks.specs.Networks.{IsTruncated, Network}
 use Rattle.ipnet.specs.IpNets.{block, family, net_in, network_at, parts}
 use Rattle.ipnet.specs.declared.ip_net.IpNet.{IpNet}
-use Rattle.least_table.specs.Tables.{IsTable}
+use Rattle.least_table.specs.Tables.{IsBitTable}
 use Rattle.nearest_table.specs.Changed.{AreInside, MakeNearest}
 use Rattle.nearest_table.specs.Edits.{blocks, installed_in, removed_in}
-use Rattle.least_table.specs.Nearest.{has, stores, surplus}
+use Rattle.least_table.specs.Nearest.{has, stores, surplus_routes}
 use Rattle.prefix_trie.proofs.Covered.{begins_through}
 use Rattle.route_choices.specs.Choices.{default_preference}
 use Rattle.route_choices.specs.Hops.{IsHop, hop_from}
@@ -213,7 +213,7 @@ width_is_short Ipv6 = omega arith
 
 -- ---- the blocks of edits
 
-within_table : (w : ℕ) (t : List (List Bool × Option ℕ)) → IsTable w t → (r : List Bool × Option ℕ) → In r t → length r.0 ≤ w
+within_table : (w : ℕ) (t : List (List Bool × Option ℕ)) → IsBitTable w t → (r : List Bool × Option ℕ) → In r t → length r.0 ≤ w
 within_table w [] ok r i = absurd i
 within_table w (q ∷ t) ok r (inl e) = subst (λ (p : List Bool × Option ℕ). length p.0 ≤ w) (sym e) ok.0
 within_table w (q ∷ t) ok r (inr i) = within_table w t ok.2 r i
@@ -230,9 +230,9 @@ edit_within w ((b, Some k) ∷ es) p q e (inr i) = edit_within w es (λ r j. p r
 edit_within w ((b, None) ∷ es) p q e (inl z) = subst (λ (d : Edit). length d.0 ≤ w) (sym z) (q b (inl refl))
 edit_within w ((b, None) ∷ es) p q e (inr i) = edit_within w es p (λ c j. q c (inr j)) e i
 
-pub edits_within : (w : ℕ) (cs t : List (List Bool × Option ℕ)) (es : List Edit) → IsTable w t → MakeNearest w cs t es → AreWithin w es
+pub edits_within : (w : ℕ) (cs t : List (List Bool × Option ℕ)) (es : List Edit) → IsBitTable w t → MakeNearest w cs t es → AreWithin w es
 edits_within w cs t es ok m = All-from_In (λ (e : Edit). length e.0 ≤ w) es (edit_within w es
     (λ r i. within_table w m.table (m.nearest.gives).table r (In-from_filter (λ r. not (has t r)) m.table r (subst (λ l. In r l) m.edits.installs i)).0)
-    (λ b i. let s = from_blocks (surplus t m.table) b (subst (λ l. In b l) m.edits.removes i) in
+    (λ b i. let s = from_blocks (surplus_routes t m.table) b (subst (λ l. In b l) m.edits.removes i) in
     let l = within_table w t ok s.0 (In-from_filter (λ r. not (stores m.table r.0)) t s.0 s.1).0 in
     subst (λ c. length c ≤ w) (sym s.2) l))

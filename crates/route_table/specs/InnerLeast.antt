@@ -6,7 +6,7 @@ use Rattle.ipnet_blocks.specs.Networks.{Network, IsTruncated}
 use Rattle.ipnet.specs.IpNets.{family, parts, net_in}
 use Rattle.ipnet.specs.declared.ip_net.IpNet.{IpNet}
 use Rattle.least_table.specs.InnerPlanners.{HasPlanned}
-use Rattle.least_table.specs.Pieces.{AreDisjoint, hop_at}
+use Rattle.least_table.specs.Pieces.{AreDisjoint, piece_hop}
 use Rattle.least_table.specs.declared.planner.Planner.{Planner}
 use Rattle.least_table.specs.Tables as bits
 use Rattle.trie_core.specs.Bits.{number_from}
@@ -41,7 +41,7 @@ IsPlanned f = HasPlanned (width f)
 -- disjoint pieces that have the hops of a family's addresses
 pub record ArePieces (f : Family) (h : Address → Option ℕ) (ps : List (List Bool × ℕ)) : Type 0 where
   pub disjoint : AreDisjoint ps
-  pub same : (s : List Bool) → length s ≡ width f → hop_at ps s ≡ hops_of f h s
+  pub same : (s : List Bool) → length s ≡ width f → piece_hop ps s ≡ hops_of f h s
 
 -- networks of one family as networks of either family, each with its hop
 abbrev pub items_of : Family → {P : Type 0} → (P → Network) → List (P × Option ℕ) → List (IpNet × Hop)
@@ -52,7 +52,7 @@ pub record AreLeast (f : Family) (ps : List (List Bool × ℕ)) (rs : List (IpNe
   pub table : IsTable (routes_for rs)
   pub in_family : All (λ r. family r.0 ≡ f) rs
   pub truncated : All (λ r. IsTruncated (family r.0) (parts r.0)) rs
-  pub least : bits.IsLeast (width f) (hop_at ps) (entries_of (routes_for rs))
+  pub least : bits.IsLeastTable (width f) (piece_hop ps) (entries_of (routes_for rs))
 
 -- routes of both families that are a least table for the hops of the pieces of both
 pub record AreLeastOf (ps qs : List (List Bool × ℕ)) (rs : List (IpNet × Hop)) : Type 0 where

@@ -1,6 +1,6 @@
 use Rattle.std.proofs.Common.{rules, arith, ◌-◌, ◌<◌, ◌∙◌, ap, length, true, false}
 use Rattle.nearest_table.specs.InnerPlans.{Plans}
-use Rattle.nearest_table.specs.Blocks.{inner, innermost}
+use Rattle.nearest_table.specs.Blocks.{inner, innermost_route}
 use Rattle.nearest_table.proofs.Builds.{cut_short, fits_half, fork_plan, from_end, less, not_end, table_half, told_same}
 use Rattle.least_table.proofs.Stores.{if_ok_map}
 use Rattle.nearest_table.proofs.plans.+make_plan.Goals as goal
@@ -10,7 +10,7 @@ returns-in-Some g t c =
     let b = c.args.block.now in
     let W = g.I.Table.width in
     told_same (W - length b) c.args.told c.innermost-here.result c.args.old (inner b (g.C.Table.routes c.args.changes.now)) (inner b (g.I.Table.routes c.args.installed.now)) c.in-Some.plan c.requires.changes
-    (c.innermost-here.ensures ∙ ap (innermost c.args.told) c.own.ensures) (from_end _ _ c.in_ok-plan.field-0 c.in-Some.plan c.in-Some.is c.in_ok-plan.ensures)
+    (c.innermost-here.ensures ∙ ap (innermost_route c.args.told) c.own.ensures) (from_end _ _ c.in_ok-plan.field-0 c.in-Some.plan c.in-Some.is c.in_ok-plan.ensures)
 
 pub extended-requires : goal.extended-requires
 extended-requires g t c = let b = c.args.block.now in omega (arith, c.requires.short, cut_short g.I.Table.width b (inner b (g.C.Table.routes c.args.changes.now)) (inner b (g.I.Table.routes c.args.installed.now)) c.requires.changes c.requires.installed (not_end _ _ c.in_ok-plan.field-0 c.in_default.is c.in_ok-plan.ensures))
@@ -49,5 +49,5 @@ returns g t c =
     let short : length b < W = cut_short W b (inner b cs) (inner b ts) c.requires.changes c.requires.installed (not_end _ _ c.in_ok-plan.field-0 c.in_default.is c.in_ok-plan.ensures) in
     if_ok_map {Q = λ p. Plans (W - length b) c.args.told c.args.old (inner b cs) (inner b ts) p} c.owned.result
     (λ p is. fork_plan W b short c.extended.result c.extended-2.result c.args.told c.innermost-here.result c.own-held.result c.args.old c.hop_or-passed.result cs ts c.in_ok-low.low c.in_ok-high.high c.in_ok-plan-2.plan p c.requires.installed c.extended.ensures c.extended-2.ensures
-    (c.innermost-here.ensures ∙ ap (innermost c.args.told) c.own.ensures) c.own-held.ensures c.hop_or-passed.ensures c.in_ok-low.ensures c.in_ok-high.ensures c.in_ok-plan-2.ensures is)
+    (c.innermost-here.ensures ∙ ap (innermost_route c.args.told) c.own.ensures) c.own-held.ensures c.hop_or-passed.ensures c.in_ok-low.ensures c.in_ok-high.ensures c.in_ok-plan-2.ensures is)
     c.owned.ensures

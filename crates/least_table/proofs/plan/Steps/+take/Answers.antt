@@ -1,6 +1,6 @@
 use Rattle.std.proofs.Common.{rules, arith, ◌≡◌, ◌∙◌, ◌-◌, ◌++◌, ◌∷◌, [], Bool, List, true, false, suc, length, slice_index_or, sym, ap, refl, length-append}
 use Rattle.std.proofs.lemmas.Bool.{eqb-true}
-use Rattle.least_table.specs.InnerPacked.{step_of}
+use Rattle.least_table.specs.InnerPacked.{stored_step}
 use Rattle.least_table.specs.InnerSteps.{steps_of}
 use Rattle.least_table.proofs.Stores.{if_ok_map}
 use Rattle.least_table.proofs.Takes.{never_empty, ends_at, left_of, left_whole, best_taken, step_kept, leaf_of, fork_of, skip_of, low_ends, leaf_stores, fork_stores, skip_stores, some_level}
@@ -22,7 +22,7 @@ path_of_step-requires g t c = (c.args.self.now.sets, step_kept (g.P.R.Key.width 
 pub returns-in-None-clause-stores : goal.returns-in-None-clause-stores
 returns-in-None-clause-stores g t c = if_ok_map c.add_own.result
     (λ _ e xs p ends.
-    leaf_stores g.P.Prefix.bits c.args.path.now c.args.inherited c.choice-hop.result.0 c.choice-hop.result.1 (g.P.R.Key.width - length c.args.path.now) xs p (step_of c.args.self.now.sets c.in-Some.step) (left_of c.args.self.now c.pop.new.self) c.args.self.now c.args.self.now c.args.self.now c.args.routes.now c.args.routes.now c.args.routes.now c.args.routes.now _ (best_taken (g.P.R.Key.width - length c.args.path.now) c.args.self.now c.pop.new.self c.in-Some.step c.in-Some.ensures xs p ends) c.choice-hop.ensures.hop c.choice-hop.ensures.route e
+    leaf_stores g.P.Prefix.bits c.args.path.now c.args.inherited c.choice-hop.result.0 c.choice-hop.result.1 (g.P.R.Key.width - length c.args.path.now) xs p (stored_step c.args.self.now.sets c.in-Some.step) (left_of c.args.self.now c.pop.new.self) c.args.self.now c.args.self.now c.args.self.now c.args.routes.now c.args.routes.now c.args.routes.now c.args.routes.now _ (best_taken (g.P.R.Key.width - length c.args.path.now) c.args.self.now c.pop.new.self c.in-Some.step c.in-Some.ensures xs p ends) c.choice-hop.ensures.hop c.choice-hop.ensures.route e
     (leaf_of (g.P.R.Key.width - length c.args.path.now) c.args.self.now c.pop.new.self c.in-Some.step c.in-Some.ensures xs p ends (sym (c.path_of_step.ensures c.args.self.now.sets) ∙ c.in-None.is)) (left_whole (g.P.R.Key.width - length c.args.path.now) c.args.self.now c.pop.new.self c.in-Some.step c.in-Some.ensures xs p ends) refl)
     c.add_own.ensures.routes
 
@@ -58,7 +58,7 @@ returns-in_ok-take-in-Some-path_of_step-2-clause-stores g t c = if_ok_map c.add_
     let long = half_length c.args.path.now c.extended-in-Some-path_of_step.result false c.extended-in-Some-path_of_step.ensures in
     let s = c.in_ok-take-in-Some-path_of_step.ensures.stores (xs ++ steps_of f.low) f.high (ends_at _ _ _ _ _ (omega (arith, up, f.deep)) f.above) in
     let u = (c.in_ok-take-in-Some-path_of_step-2).ensures.stores xs f.low (ends_at _ _ _ _ _ (omega (arith, long, f.deep)) (low_ends _ _ _ _ _ f s.steps s.whole)) in
-    fork_stores g.P.Prefix.bits c.args.path.now c.args.inherited c.choice-hop.result.0 c.choice-hop.result.1 (g.P.R.Key.width - length c.args.path.now) xs p (step_of c.args.self.now.sets c.in-Some.step) (left_of c.args.self.now c.pop.new.self) _ _ c.args.self.now _ _ c.args.routes.now _ _ (best_taken (g.P.R.Key.width - length c.args.path.now) c.args.self.now c.pop.new.self c.in-Some.step c.in-Some.ensures xs p ends) c.choice-hop.ensures.hop c.choice-hop.ensures.route e f c.extended.result c.extended-in-Some-path_of_step.result c.extended.ensures c.extended-in-Some-path_of_step.ensures s u)
+    fork_stores g.P.Prefix.bits c.args.path.now c.args.inherited c.choice-hop.result.0 c.choice-hop.result.1 (g.P.R.Key.width - length c.args.path.now) xs p (stored_step c.args.self.now.sets c.in-Some.step) (left_of c.args.self.now c.pop.new.self) _ _ c.args.self.now _ _ c.args.routes.now _ _ (best_taken (g.P.R.Key.width - length c.args.path.now) c.args.self.now c.pop.new.self c.in-Some.step c.in-Some.ensures xs p ends) c.choice-hop.ensures.hop c.choice-hop.ensures.route e f c.extended.result c.extended-in-Some-path_of_step.result c.extended.ensures c.extended-in-Some-path_of_step.ensures s u)
     c.add_own-in-Some-path_of_step.ensures.routes
 
 pub returns-in_ok-take-in-Some-path_of_step-2-clause-networks : goal.returns-in_ok-take-in-Some-path_of_step-2-clause-networks
@@ -102,7 +102,7 @@ returns-in_ok-add_own-in-Some-2-2-clause-stores g t c = if_ok_map c.add_own-in-S
     let f = skip_of (g.P.R.Key.width - length c.args.path.now) c.args.self.now c.pop.new.self c.in-Some.step c.in-Some.ensures xs c.in-Some-path_of_step.turns p ends (sym (c.path_of_step.ensures c.args.self.now.sets) ∙ c.in-Some-path_of_step.is) (some_level _ (sym c.is_empty.ensures ∙ c.if-is_empty.false)) in
     let long = ap length c.onward.ensures ∙ length-append c.args.path.now c.in-Some-path_of_step.turns in
     let s = c.in_ok-take-in-Some-2.ensures.stores xs f.inner (ends_at _ _ _ _ _ (omega (arith, long, f.deep, ap length f.turns)) f.ends) in
-    skip_stores g.P.Prefix.bits c.args.path.now c.args.inherited c.choice-hop.result.0 c.choice-hop.result.1 (g.P.R.Key.width - length c.args.path.now) xs p (step_of c.args.self.now.sets c.in-Some.step) (left_of c.args.self.now c.pop.new.self) c.args.self.now _ c.args.self.now c.args.routes.now _ _ _ _ (best_taken (g.P.R.Key.width - length c.args.path.now) c.args.self.now c.pop.new.self c.in-Some.step c.in-Some.ensures xs p ends) c.choice-hop.ensures.hop c.choice-hop.ensures.route e c.in-Some-path_of_step.turns f c.turn-is_upper.result c.needs_drop-above.result c.needs_drop-below.result
+    skip_stores g.P.Prefix.bits c.args.path.now c.args.inherited c.choice-hop.result.0 c.choice-hop.result.1 (g.P.R.Key.width - length c.args.path.now) xs p (stored_step c.args.self.now.sets c.in-Some.step) (left_of c.args.self.now c.pop.new.self) c.args.self.now _ c.args.self.now c.args.routes.now _ _ _ _ (best_taken (g.P.R.Key.width - length c.args.path.now) c.args.self.now c.pop.new.self c.in-Some.step c.in-Some.ensures xs p ends) c.choice-hop.ensures.hop c.choice-hop.ensures.route e c.in-Some-path_of_step.turns f c.turn-is_upper.result c.needs_drop-above.result c.needs_drop-below.result
     c.extended-in-Some-2.result c.extended-in-Some-2-2.result c.onward.result (c.turn-is_upper.ensures ∙ ap (λ ds. slice_index_or ds 0 false) f.turns) c.needs_drop-above.ensures c.needs_drop-below.ensures
     c.extended-in-Some-2.ensures c.extended-in-Some-2-2.ensures c.onward.ensures c.in_ok-add_own-in-Some-2.ensures.routes s (c.in_ok-add_own-in-Some-2-2).ensures.routes)
     c.add_own-in-Some-2-3.ensures.routes
