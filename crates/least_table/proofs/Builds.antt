@@ -12,13 +12,13 @@ pub plan_same : (w : ℕ) (h g : List Bool → Option ℕ) (t : LeastPlan) → (
 plan_same w h g (Leaf k) e plan = λ x l. e x ∙ plan x l
 plan_same w h g (Fork hops l r) e plan =
     (plan.0, plan.1, plan.2, plan_same plan.0 (half_of false h) (half_of false g) l (λ x. e (false ∷ x)) plan.3, plan_same plan.0 (half_of true h) (half_of true g) r (λ x. e (true ∷ x)) plan.4)
-plan_same w h g (Skip hops b ds t) e plan =
+plan_same w h g (Skip k hops b ds t) e plan =
     (plan.0, plan.1, plan.2, (λ x l f. e x ∙ plan.3 x l f), plan_same plan.0 (inner_of (b ∷ ds) h) (inner_of (b ∷ ds) g) t (λ x. e ((b ∷ ds) ++ x)) plan.4)
 
 pub fits_plan : (w : ℕ) (h : List Bool → Option ℕ) (t : LeastPlan) → IsLeastPlan w h t → PlanFits w t
 fits_plan w h (Leaf k) plan = tt
 fits_plan w h (Fork hops l r) plan = (plan.0, plan.1, fits_plan plan.0 (half_of false h) l plan.3, fits_plan plan.0 (half_of true h) r plan.4)
-fits_plan w h (Skip hops b ds t) plan = (plan.0, plan.1, fits_plan plan.0 (inner_of (b ∷ ds) h) t plan.4)
+fits_plan w h (Skip k hops b ds t) plan = (plan.0, plan.1, fits_plan plan.0 (inner_of (b ∷ ds) h) t plan.4)
 
 -- the plan of the pieces, by those of the halves
 pub halves_made : (w d m : ℕ) (ps front back : List (List Bool × ℕ)) (p q r : LeastPlan) → d < w → AllBegin false (beyond d (take m ps)) → AllBegin true (beyond d (drop m ps)) → JoinsHalves p q r → front ≡ take m ps → back ≡ drop m ps

@@ -1,5 +1,5 @@
 -- Plans behind other steps, made wider.
-use Rattle.std.proofs.Common.{◌≡◌, ℕ, zero, suc, ◌-◌, ◌≤◌, ◌<◌, ◌∙◌, Bool, true, false, not, List, [], ◌∷◌, length, take, drop, slice_index_or, refl, sym, ap, subst, arith, add-one, append-nil}
+use Rattle.std.proofs.Common.{◌≡◌, ℕ, zero, suc, ◌-◌, ◌≤◌, ◌<◌, ◌∙◌, Bool, true, false, not, List, [], ◌∷◌, length, take, drop, slice_index_or, None, refl, sym, ap, subst, arith, add-one, append-nil}
 use Rattle.ipnet_blocks.specs.BitStrings.{begins}
 use Rattle.least_table.specs.InnerPacked.{best_at, steps_in}
 use Rattle.least_table.specs.InnerPieces.{AllBegin, AllShare, beyond}
@@ -61,13 +61,13 @@ AllBegin-next d a b [] l e h = tt
 AllBegin-next d a b (p ∷ ps) l e h = (subst (λ c. begins (c ∷ []) (drop d p.0) ≡ true) e (begins_next d a p.0 l h.0), AllBegin-next d a b ps l e h.1)
 
 -- the last step of a plan is that of its block
-pub best_last : (xs : List Step) (p : LeastPlan) (s : Steps) → EndsWithPlan xs p s → (at : ℕ) → suc at ≡ length (steps_in s) → best_at s at ≡ plan_best p
-best_last xs p s h at e = let i : at ≡ suc at - 1 = omega arith in ap (best_at s) i ∙ read_top p xs (steps_in s) [] (steps_in s) h.steps (sym (append-nil (steps_in s))) (suc at) e
+pub best_last : (xs : List Step) (p : LeastPlan) (s : Steps) → EndsWithPlan xs p s → best_at s (length (steps_in s) - 1) ≡ plan_best p
+best_last xs p s h = read_top p xs (steps_in s) [] (steps_in s) h.steps (sym (append-nil (steps_in s))) (length (steps_in s)) refl
 
 module _ (w : ℕ) where
   -- ---- the plan of a wider block, of whose halves one has no piece
 
-  wider_plan : (d : ℕ) (upper : Bool) (ps : List (List Bool × ℕ)) (p r : LeastPlan) → d < w → AllBegin upper (beyond d ps) → OfHalf upper p r → IsLeastPlan (w - suc d) (piece_hop (beyond (suc d) ps)) p → IsLeastPlan (w - d) (piece_hop (beyond d ps)) r
+  wider_plan : (d : ℕ) (upper : Bool) (ps : List (List Bool × ℕ)) (p r : LeastPlan) → d < w → AllBegin upper (beyond d ps) → OfHalf upper None p r → IsLeastPlan (w - suc d) (piece_hop (beyond (suc d) ps)) p → IsLeastPlan (w - d) (piece_hop (beyond d ps)) r
   wider_plan d upper ps p r l begin of_half plan =
       let share = share_bit upper (beyond d ps) begin in
       let more : suc (w - suc d) ≡ w - d = omega (arith, l) in
@@ -77,7 +77,7 @@ module _ (w : ℕ) where
       (λ x e. none_outside (upper ∷ []) d ps share (not upper ∷ x) (begins_other upper [] x)))
 
   pub ascended : (a : List Bool) (to from : ℕ) (upper : Bool) (ps : List (List Bool × ℕ)) (xs : List Step) (old new : Steps) → length a ≤ w → from ≡ suc to → from ≤ length a → upper ≡ slice_index_or a to false
-      → (h : HasPlan w a from ps xs old) → (r : LeastPlan) → OfHalf upper h.plan r → EndsWithPlan xs r new → HasPlan w a to ps xs new
+      → (h : HasPlan w a from ps xs old) → (r : LeastPlan) → OfHalf upper None h.plan r → EndsWithPlan xs r new → HasPlan w a to ps xs new
   ascended a to from upper ps xs old new inside e l bit h r of_half ends = record {
     plan = r;
     ends = ends;

@@ -1,8 +1,8 @@
 -- What the steps of a plan store, as the routes of its tree.
-use Rattle.std.proofs.Common.{◌≡◌, ℕ, Bool, true, false, cond, not, ◌&&◌, List, [], ◌∷◌, ◌++◌, Option, Some, None, is_some, refl, sym, ap, ap₂, ◌∙◌, append_assoc, append-nil}
+use Rattle.std.proofs.Common.{◌≡◌, ℕ, Bool, true, false, cond, not, ◌&&◌, List, [], ◌∷◌, ◌++◌, Option, refl, sym, ap, ap₂, ◌∙◌, append_assoc, append-nil}
 use Rattle.least_table.specs.BestHops.{Of, passed_on}
-use Rattle.least_table.specs.HopSets.{holds, first_hop}
-use Rattle.least_table.specs.InnerTrees.{beside, dropped, with_best}
+use Rattle.least_table.specs.HopSets.{is_same_hop, holds, first_hop}
+use Rattle.least_table.specs.InnerTrees.{beside, one_route, with_best}
 use Rattle.least_table.specs.Tables.{inside, within}
 use Rattle.least_table.proofs.Stores.{within-halves, within_within}
 
@@ -30,33 +30,36 @@ cut_stored b hops parts s k is_new old mid new e f g h = h ∙ ap₂ (λ t u. t 
     own : cond {A = List (List Bool × Option ℕ)} is_new ((b, k) ∷ []) [] ≡ route
     own = ap₂ (λ n j. cond {A = List (List Bool × Option ℕ)} n ((b, j) ∷ []) []) f e ∙ own_route (holds hops s)
 
--- a half without hops
-drop_stored : (b : List Bool) (k : Option ℕ) → cond {A = List (List Bool × Option ℕ)} (is_some k) ((b, None) ∷ []) [] ≡ within b (dropped k)
-drop_stored b None = refl
-drop_stored b (Some k) = ap (λ x. (x, None) ∷ []) (sym (append-nil b))
+-- a half whose addresses have one hop
+one_stored : (b : List Bool) (j k : Option ℕ) → cond {A = List (List Bool × Option ℕ)} (not (is_same_hop k j)) ((b, j) ∷ []) [] ≡ within b (one_route j k)
+one_stored b j k = go (is_same_hop k j)
+  where
+    go : (c : Bool) → cond {A = List (List Bool × Option ℕ)} (not c) ((b, j) ∷ []) [] ≡ within b (cond c [] (([], j) ∷ []))
+    go true = refl
+    go false = ap (λ x. (x, j) ∷ []) (sym (append-nil b))
 
-no_drop : (c : Bool) → (c && false) ≡ false
-no_drop true = refl
-no_drop false = refl
+no_route : (c : Bool) → (c && false) ≡ false
+no_route true = refl
+no_route false = refl
 
-a_drop : (c : Bool) → (c && true) ≡ c
-a_drop true = refl
-a_drop false = refl
+a_route : (c : Bool) → (c && true) ≡ c
+a_route true = refl
+a_route false = refl
 
 -- the routes that are added for a smaller block, and before or after it that of the half beside it
-pub beside_stored : (b q1 q0 q : List Bool) (half : Bool) (ds : List Bool) (k : Option ℕ) (t r0 r1 r2 r3 : List (List Bool × Option ℕ)) → q1 ≡ b ++ true ∷ [] → q0 ≡ b ++ false ∷ [] → q ≡ b ++ (half ∷ ds)
-    → r1 ≡ cond (is_some k && not half) ((q1, None) ∷ []) [] ++ r0 → r2 ≡ within q t ++ r1 → r3 ≡ cond (is_some k && half) ((q0, None) ∷ []) [] ++ r2 → r3 ≡ within b (beside half k (within ds t)) ++ r0
-beside_stored b q1 q0 q half ds k t r0 r1 r2 r3 e1 e0 e upper inner lower = go half way upper lower
+pub beside_stored : (b q1 q0 q : List Bool) (half : Bool) (ds : List Bool) (j k : Option ℕ) (t r0 r1 r2 r3 : List (List Bool × Option ℕ)) → q1 ≡ b ++ true ∷ [] → q0 ≡ b ++ false ∷ [] → q ≡ b ++ (half ∷ ds)
+    → r1 ≡ cond (not (is_same_hop k j) && not half) ((q1, j) ∷ []) [] ++ r0 → r2 ≡ within q t ++ r1 → r3 ≡ cond (not (is_same_hop k j) && half) ((q0, j) ∷ []) [] ++ r2 → r3 ≡ within b (beside half j k (within ds t)) ++ r0
+beside_stored b q1 q0 q half ds j k t r0 r1 r2 r3 e1 e0 e upper inner lower = go half way upper lower
   where
     way : within q t ≡ within (b ++ half ∷ []) (within ds t)
     way = ap (λ u. within u t) (e ∙ sym (append_assoc b (half ∷ []) ds)) ∙ sym (within_within (b ++ half ∷ []) ds t)
 
-    go : (c : Bool) → within q t ≡ within (b ++ c ∷ []) (within ds t) → r1 ≡ cond (is_some k && not c) ((q1, None) ∷ []) [] ++ r0 → r3 ≡ cond (is_some k && c) ((q0, None) ∷ []) [] ++ r2 → r3 ≡ within b (beside c k (within ds t)) ++ r0
+    go : (c : Bool) → within q t ≡ within (b ++ c ∷ []) (within ds t) → r1 ≡ cond (not (is_same_hop k j) && not c) ((q1, j) ∷ []) [] ++ r0 → r3 ≡ cond (not (is_same_hop k j) && c) ((q0, j) ∷ []) [] ++ r2 → r3 ≡ within b (beside c j k (within ds t)) ++ r0
     go true f up low =
-        low ∙ ap₂ (λ x y. x ++ y) (ap₂ (λ c u. cond {A = List (List Bool × Option ℕ)} c ((u, None) ∷ []) []) (a_drop (is_some k)) e0 ∙ drop_stored (b ++ false ∷ []) k)
-        (inner ∙ ap₂ (λ x y. x ++ y) f (up ∙ ap (λ c. cond {A = List (List Bool × Option ℕ)} c ((q1, None) ∷ []) [] ++ r0) (no_drop (is_some k))))
-        ∙ sym (append_assoc (within (b ++ false ∷ []) (dropped k)) (within (b ++ true ∷ []) (within ds t)) r0) ∙ ap (λ x. x ++ r0) (sym (within-halves b (dropped k) (within ds t)))
+        low ∙ ap₂ (λ x y. x ++ y) (ap₂ (λ c u. cond {A = List (List Bool × Option ℕ)} c ((u, j) ∷ []) []) (a_route (not (is_same_hop k j))) e0 ∙ one_stored (b ++ false ∷ []) j k)
+        (inner ∙ ap₂ (λ x y. x ++ y) f (up ∙ ap (λ c. cond {A = List (List Bool × Option ℕ)} c ((q1, j) ∷ []) [] ++ r0) (no_route (not (is_same_hop k j)))))
+        ∙ sym (append_assoc (within (b ++ false ∷ []) (one_route j k)) (within (b ++ true ∷ []) (within ds t)) r0) ∙ ap (λ x. x ++ r0) (sym (within-halves b (one_route j k) (within ds t)))
     go false f up low =
-        low ∙ ap (λ c. cond {A = List (List Bool × Option ℕ)} c ((q0, None) ∷ []) [] ++ r2) (no_drop (is_some k))
-        ∙ inner ∙ ap₂ (λ x y. x ++ y) f (up ∙ ap (λ x. x ++ r0) (ap₂ (λ c u. cond {A = List (List Bool × Option ℕ)} c ((u, None) ∷ []) []) (a_drop (is_some k)) e1 ∙ drop_stored (b ++ true ∷ []) k))
-        ∙ sym (append_assoc (within (b ++ false ∷ []) (within ds t)) (within (b ++ true ∷ []) (dropped k)) r0) ∙ ap (λ x. x ++ r0) (sym (within-halves b (within ds t) (dropped k)))
+        low ∙ ap (λ c. cond {A = List (List Bool × Option ℕ)} c ((q0, j) ∷ []) [] ++ r2) (no_route (not (is_same_hop k j)))
+        ∙ inner ∙ ap₂ (λ x y. x ++ y) f (up ∙ ap (λ x. x ++ r0) (ap₂ (λ c u. cond {A = List (List Bool × Option ℕ)} c ((u, j) ∷ []) []) (a_route (not (is_same_hop k j))) e1 ∙ one_stored (b ++ true ∷ []) j k))
+        ∙ sym (append_assoc (within (b ++ false ∷ []) (within ds t)) (within (b ++ true ∷ []) (one_route j k)) r0) ∙ ap (λ x. x ++ r0) (sym (within-halves b (within ds t) (one_route j k)))

@@ -1,34 +1,40 @@
 -- Plans are joined and made wider: their steps, and those that are appended.
-use Rattle.std.proofs.Common.{◌≡◌, ℕ, suc, ◌-◌, ◌<◌, ◌==◌, Bool, false, List, [], ◌∷◌, ◌++◌, length, Option, Some, None, refl, sym, ap, ◌∙◌, subst, arith, append_assoc, length-append, MatchOption}
+use Rattle.std.proofs.Common.{◌≡◌, ℕ, suc, ◌-◌, Bool, true, List, [], ◌∷◌, ◌++◌, length, Option, Some, None, refl, sym, ap, ◌∙◌, subst, arith, append_assoc, append-nil, length-append, MatchOption}
 use Rattle.least_table.specs.BestHops.{Of, AreMerged}
+use Rattle.least_table.specs.HopSets.{holds}
 use Rattle.least_table.specs.InnerPacked.{Grows, AreWhole, IsKeptStep, best_at, stored_step, steps_in}
-use Rattle.least_table.specs.InnerPlans.{EndsWithPlan, OfHalf, JoinsHalves}
+use Rattle.least_table.specs.InnerPlans.{EndsWithPlan, IsHeld, OfHalf, JoinsHalves}
 use Rattle.least_table.specs.InnerRising.{IsRising}
-use Rattle.least_table.specs.InnerSteps.{Step, Cut, Uncut, IsLonger, path_in, step_best, steps_of, top}
+use Rattle.least_table.specs.InnerSteps.{Step, Around, Halves, Whole, IsLonger, cut_on, step_best, steps_of, top}
 use Rattle.least_table.specs.InnerTrees.{LeastPlan, Leaf, Fork, Skip, plan_best}
+use Rattle.least_table.specs.declared.plan.LowerPlan.TheVariants as lower
 use Rattle.least_table.specs.declared.plan.Packed.{Packed}
+use Rattle.least_table.specs.declared.plan.Packed.TheVariants as packed
 use Rattle.least_table.specs.declared.plan.Steps.{Steps}
 use Rattle.least_table.proofs.Gathers.{best_last}
+use Rattle.least_table.proofs.LeastPlans.{merged_in}
 use Rattle.least_table.proofs.Packed.{popped, kept_popped}
 use Rattle.least_table.proofs.Takes.{last_taken, left_of, same_ends}
 use Rattle.least_table.proofs.Tops.{below, read_top, top_best, top_last}
 use Rattle.least_table.proofs.Widths.{forked, lone, longer}
 
--- a plan whose step cuts a block into a smaller one
-skip_plan : (p : LeastPlan) (b : Bool) (ds : List Bool) (hops : List (Option ℕ)) → top p ≡ Cut (b ∷ ds) hops → (t : LeastPlan) × (p ≡ Skip hops b ds t)
-skip_plan (Skip ks c es t) b ds hops e =
-    let one : c ≡ b = cc in
-    let two : es ≡ ds = cc in
-    let three : ks ≡ hops = cc in
-    (t, ap (λ u. Skip ks u es t) one ∙ ap (λ u. Skip ks b u t) two ∙ ap (λ u. Skip u b ds t) three)
-skip_plan (Leaf k) b ds hops e = cc
-skip_plan (Fork ks l r) b ds hops e = cc
+-- ---- what a plan is by the step of its block
 
--- the path that is longer by one level
-pub longer_path : (upper : Bool) (ds turns : List Bool) (x : Step) → Some ds ≡ path_in x → (length ds == 0) ≡ false → turns ≡ upper ∷ ds → IsLonger upper x turns
-longer_path upper ds turns (Uncut k) e f g = cc
-longer_path upper [] turns (Cut es hops) e f g = cc
-longer_path upper (b ∷ ds) turns (Cut es hops) e f g = let same : b ∷ ds ≡ es = cc in (b, ds, hops, ap (λ us. Cut us hops) (sym same), g)
+leaf_plan : (p : LeastPlan) (k : ℕ) → top p ≡ Whole k → p ≡ Leaf k
+leaf_plan (Leaf j) k e = let same : j ≡ k = cc in ap (λ i. Leaf i) same
+leaf_plan (Fork hops l r) k e = cc
+leaf_plan (Skip j hops b ds t) k e = cc
+
+skip_plan : (p : LeastPlan) (way : List Bool) (k : Option ℕ) (hops : List (Option ℕ)) → top p ≡ Around way k hops → (b : Bool) × (ds : List Bool) × (t : LeastPlan) × (p ≡ Skip k hops b ds t) × (way ≡ b ∷ ds)
+skip_plan (Skip j ks b ds t) way k hops e =
+    let one : j ≡ k = cc in
+    let two : ks ≡ hops = cc in
+    let three : way ≡ b ∷ ds = cc in
+    (b, ds, t, ap (λ u. Skip u ks b ds t) one ∙ ap (λ u. Skip k u b ds t) two, three)
+skip_plan (Leaf j) way k hops e = cc
+skip_plan (Fork ks l r) way k hops e = cc
+
+-- ---- steps that are taken off or appended
 
 -- what is taken off a list is its last item
 pub pop_last : {X : Type 0} (old rest new : List X) (y : X) (r : Option X) → old ≡ rest ++ y ∷ [] → MatchOption r ((old ≡ []) × (new ≡ [])) (λ x. old ≡ new ++ x ∷ []) → old ≡ new ++ y ∷ []
@@ -54,29 +60,49 @@ module _ (xs : List Step) (p : LeastPlan) (old new : Steps) (ends : EndsWithPlan
   pub last_best : step_best (stored_step old.sets y) ≡ plan_best p
   last_best = ap step_best last.1 ∙ top_best p
 
-  module _ (upper : Bool) where
-    -- the other half has no hop
-    pub lone_ends : (hops : List (Option ℕ)) → AreMerged (Of (None ∷ [])) (Of (plan_best p)) (Of hops) → IsRising hops → Grows old new (Cut (upper ∷ []) hops ∷ []) → (r : LeastPlan) × OfHalf upper p r × EndsWithPlan xs r new
-    lone_ends hops merged rising grows = (Skip hops upper [] p, lone upper p hops merged, ends_grown xs (Skip hops upper [] p) (Cut (upper ∷ []) hops) old new ends.steps refl grows rising)
+  module _ (upper : Bool) (k : Option ℕ) where
+    -- the other half has one hop
+    pub lone_ends : (hops : List (Option ℕ)) → AreMerged (Of (k ∷ [])) (Of (plan_best p)) (Of hops) → IsRising hops → Grows old new (Around (upper ∷ []) k hops ∷ []) → (r : LeastPlan) × OfHalf upper k p r × EndsWithPlan xs r new
+    lone_ends hops merged rising grows = (Skip k hops upper [] p, lone upper k p hops merged, ends_grown xs (Skip k hops upper [] p) (Around (upper ∷ []) k hops) old new ends.steps refl grows rising)
 
-    -- and this half is cut into a smaller block
-    pub longer_ends : (turns : List Bool) → IsLonger upper (stored_step old.sets y) turns → Grows (left_of old rest) new (Cut turns (None ∷ []) ∷ []) → (r : LeastPlan) × OfHalf upper p r × EndsWithPlan xs r new
-    longer_ends turns w grows =
-        let t = skip_plan p w.0 w.1 w.2 (sym last.1 ∙ w.3) in
-        let r = Skip (None ∷ []) upper (w.0 ∷ w.1) t.0 in
-        (r, subst (λ q. OfHalf upper q r) (sym t.1) (longer upper w.0 w.1 w.2 t.0), ends_grown xs r (Cut turns (None ∷ [])) (left_of old rest) new (last.0 ∙ ap (λ q. xs ++ below q) t.1) (ap (λ u. Cut u (None ∷ [])) (sym w.4)) grows (tt, tt))
+    -- this hop is one of the best ones of the half
+    pub single_ends : holds (plan_best p) k ≡ true → Grows old new (Around (upper ∷ []) k (k ∷ []) ∷ []) → (r : LeastPlan) × OfHalf upper k p r × EndsWithPlan xs r new
+    single_ends e = lone_ends (k ∷ []) (merged_in k (plan_best p) e) (tt, tt)
+
+    -- this half is cut into a smaller block past the same hop
+    pub longer_ends : (turns : List Bool) (x : Step) → IsLonger upper k (stored_step old.sets y) turns → x ≡ cut_on turns k (k ∷ []) → Grows (left_of old rest) new (x ∷ []) → (r : LeastPlan) × OfHalf upper k p r × EndsWithPlan xs r new
+    longer_ends turns x l is grows =
+        let t = skip_plan p l.0 k l.1 (sym last.1 ∙ l.2) in
+        let r = Skip k (k ∷ []) upper (t.0 ∷ t.1) t.2 in (
+          r,
+          subst (λ q. OfHalf upper k q r) (sym t.3) (longer upper t.0 t.1 k l.1 t.2),
+          ends_grown xs r x (left_of old rest) new (last.0 ∙ ap (λ q. xs ++ below q) t.3) (sym (is ∙ ap (λ u. cut_on u k (k ∷ [])) (l.3 ∙ ap (λ u. upper ∷ u) t.4))) grows (tt, tt),
+        )
 
 -- both halves are planned
-module _ (at : ℕ) (xs ys : List Step) (p q : LeastPlan) (old : Steps) (steps : ys ≡ xs ++ steps_of p) (last : suc at ≡ length ys) (ends : EndsWithPlan ys q old) where
+module _ (at : ℕ) (xs ys : List Step) (p q : LeastPlan) (old : Steps) (held : IsHeld (lower.At at) p xs ys) (ends : EndsWithPlan ys q old) where
   pub low_best : best_at old at ≡ plan_best p
-  low_best = let i : at ≡ suc at - 1 = omega arith in ap (best_at old) i ∙ read_top p xs ys (steps_of q) (steps_in old) steps ends.steps (suc at) last
+  low_best = let i : at ≡ suc at - 1 = omega arith in ap (best_at old) i ∙ read_top p xs ys (steps_of q) (steps_in old) held.0 ends.steps (suc at) held.1
 
-  pub low_inside : at < length (steps_in old)
-  low_inside = omega (arith, last, ap length ends.steps ∙ length-append ys (steps_of q))
-
-  pub joined_ends : (high : ℕ) (hops : List (Option ℕ)) (new : Steps) → suc high ≡ length (steps_in old) → AreMerged (Of (best_at old at)) (Of (best_at old high)) (Of hops) → IsRising hops → Grows old new (Cut [] hops ∷ []) → (r : LeastPlan) × JoinsHalves p q r × EndsWithPlan xs r new
-  joined_ends high hops new i merged rising grows = (
+  pub fork_ends : (hops : List (Option ℕ)) (new : Steps) → AreMerged (Of (best_at old at)) (Of (best_at old (length (steps_in old) - 1))) (Of hops) → IsRising hops → Grows old new (Halves hops ∷ []) → (r : LeastPlan) × JoinsHalves p q r × EndsWithPlan xs r new
+  fork_ends hops new merged rising grows = (
     Fork hops p q,
-    forked p q hops (subst (λ ks. AreMerged (Of ks) (Of (plan_best q)) (Of hops)) low_best (subst (λ ks. AreMerged (Of (best_at old at)) (Of ks) (Of hops)) (best_last ys q old ends high i) merged)),
-    ends_grown xs (Fork hops p q) (Cut [] hops) old new (ends.steps ∙ ap (λ t. t ++ steps_of q) steps ∙ append_assoc xs (steps_of p) (steps_of q)) refl grows rising,
+    forked p q hops (subst (λ ks. AreMerged (Of ks) (Of (plan_best q)) (Of hops)) low_best (subst (λ ks. AreMerged (Of (best_at old at)) (Of ks) (Of hops)) (best_last ys q old ends) merged)),
+    ends_grown xs (Fork hops p q) (Halves hops) old new (ends.steps ∙ ap (λ t. t ++ steps_of q) held.0 ∙ append_assoc xs (steps_of p) (steps_of q)) refl grows rising,
   )
+
+-- ---- the last step is a leaf
+
+pub leaf_last : (k : ℕ) (xs : List Step) (p : LeastPlan) (old new : Steps) → steps_in old ≡ steps_in new ++ Whole k ∷ [] → EndsWithPlan xs p old → (p ≡ Leaf k) × (steps_in new ≡ xs)
+leaf_last k xs p old new e ends =
+    let t = last_taken xs old new (Whole k) p e ends.steps in
+    let is = leaf_plan p k (sym t.1) in
+    (is, t.0 ∙ ap (λ q. xs ++ below q) is ∙ append-nil xs)
+
+-- a leaf that is taken off
+pub leaf_popped : (k : ℕ) (old : Steps) (rest : List Packed) → old.steps ≡ rest ++ packed.Leaf k ∷ [] → AreWhole old → (steps_in old ≡ steps_in (left_of old rest) ++ Whole k ∷ []) × AreWhole (left_of old rest)
+leaf_popped k old rest e h = (popped old rest (packed.Leaf k) e, (kept_popped old rest (packed.Leaf k) e h).0)
+
+-- the plan of a lower half, once the leaf behind it is taken off
+pub lower_ends : (xs : List Step) (p : LeastPlan) (s : Steps) → steps_in s ≡ xs ++ steps_of p → AreWhole s → IsRising (plan_best p) → EndsWithPlan xs p s
+lower_ends xs p s e h rising = record { steps = e; whole = h; rising = rising }

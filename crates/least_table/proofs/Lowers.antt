@@ -7,9 +7,10 @@ use Rattle.least_table.specs.InnerPacked.{AreWhole, steps_in}
 use Rattle.least_table.specs.InnerPieces.{AllBegin, AllShare, AreRisingPieces, before, beyond, shared}
 use Rattle.least_table.specs.InnerPlanners.{HasPlan, EndAt, HasPlanned, IsLower, AreLowers, ArePlanned, IsDeeper}
 use Rattle.least_table.specs.Pieces.{AreDisjoint, piece_hop, strings}
-use Rattle.least_table.specs.InnerPlans.{EndsWithPlan, EndsWithin, IsPlanOf, JoinsHalves, Stores}
+use Rattle.least_table.specs.InnerPlans.{EndsWithPlan, EndsWithin, IsHeld, IsPlanOf, JoinsHalves, Stores}
 use Rattle.least_table.specs.InnerSteps.{Step, steps_of, top}
 use Rattle.least_table.specs.InnerSteps as steps
+use Rattle.least_table.specs.declared.plan.LowerPlan.{LowerPlan}
 use Rattle.least_table.specs.declared.plan.Steps.{Steps}
 use Rattle.least_table.specs.declared.planner.Lower.{Lower}
 use Rattle.least_table.specs.declared.planner.Planner.{Planner}
@@ -135,8 +136,7 @@ module _ (w : ℕ) where
           others = h.1.others;
           before = h.1.before;
           all = h.1.all;
-          steps = h.1.steps;
-          last = h.1.last;
+          held = h.1.held;
           rising = h.1.rising;
           is = subst (λ u. IsPlanOf w (suc o.depth) (u ++ false ∷ []) h.1.pieces h.1.plan) t h.1.is;
           upper = sym (bit_agrees o.depth n a z (omega (arith, l, h.0)) e) ∙ h.1.upper;
@@ -157,9 +157,9 @@ module _ (w : ℕ) where
   some_step xs p s h = omega (arith, ap length h.steps ∙ length-append xs (steps_of p), ap length (top_last p), length-append (below p) (top p ∷ []))
 
   -- the one that the last piece lies in, where the next one lies in the upper half
-  pub turned : (a z : List Bool) (n : ℕ) (os : List Lower) (ps : List (List Bool × ℕ)) (s t : Steps) (at : ℕ) → Parts a z n → (h : ArePlanned w a (n + 1) (n + 1) ps os s) → steps_in t ≡ h.before ++ steps_of h.plans.plan → suc at ≡ length (steps_in t)
-      → AreLowers w (reverse (os ++ record { depth = n; last = at } ∷ [])) z (length z) ps (steps_in t)
-  turned a z n os ps s t at p h i e = subst (λ us. AreLowers w us z (length z) ps (steps_in t)) (sym (reverse-append os (record { depth = n; last = at } ∷ []))) (
+  pub turned : (a z : List Bool) (n : ℕ) (os : List Lower) (ps : List (List Bool × ℕ)) (s t : Steps) (held : LowerPlan) → Parts a z n → (h : ArePlanned w a (n + 1) (n + 1) ps os s) → IsHeld held h.plans.plan h.before (steps_in t)
+      → AreLowers w (reverse (os ++ record { depth = n; planned = held } ∷ [])) z (length z) ps (steps_in t)
+  turned a z n os ps s t held p h i = subst (λ us. AreLowers w us z (length z) ps (steps_in t)) (sym (reverse-append os (record { depth = n; planned = held } ∷ []))) (
     p.other,
     record {
       plan = h.plans.plan;
@@ -167,8 +167,7 @@ module _ (w : ℕ) where
       others = h.others;
       before = h.before;
       all = h.all;
-      steps = i;
-      last = e;
+      held = i;
       rising = h.plans.ends.rising;
       is = subst (λ u. IsPlanOf w (suc n) u h.pieces h.plans.plan) p.next (subst (λ m. IsPlanOf w m (take m a) h.pieces h.plans.plan) (add-one n) h.plans.is);
       upper = p.high;
@@ -182,7 +181,7 @@ module _ (w : ℕ) where
   piece_plan : (z : List Bool) (hop : ℕ) → IsLeastPlan (w - length z) (piece_hop (beyond (length z) ((z, hop) ∷ []))) (trees.Leaf hop)
   piece_plan z hop x l = rw (drop_of_length-le z {i = length z} (omega arith)) refl
 
-  pub piece_planned : (z : List Bool) (hop : ℕ) (xs : List Step) (new : Steps) → steps_in new ≡ xs ++ steps.Uncut hop ∷ [] → AreWhole new → HasPlan w z (length z) ((z, hop) ∷ []) xs new
+  pub piece_planned : (z : List Bool) (hop : ℕ) (xs : List Step) (new : Steps) → steps_in new ≡ xs ++ steps.Whole hop ∷ [] → AreWhole new → HasPlan w z (length z) ((z, hop) ∷ []) xs new
   piece_planned z hop xs new e whole = record {
     plan = trees.Leaf hop;
     ends = record { steps = e; whole = whole; rising = (tt, tt) };

@@ -6,8 +6,8 @@ use Rattle.std.proofs.lemmas.List.Kept.{AllPairs-cons}
 use Rattle.std.proofs.lemmas.Bool.{cond_both}
 use Rattle.ipnet_blocks.specs.BitStrings.{bits_cmp}
 use Rattle.trie_core.proofs.Strings.{bits_cmp-under}
-use Rattle.least_table.specs.HopSets.{holds, first_hop}
-use Rattle.least_table.specs.InnerTrees.{LeastPlan, Leaf, Fork, Skip, beside, dropped, plan_routes, with_best}
+use Rattle.least_table.specs.HopSets.{is_same_hop, holds, first_hop}
+use Rattle.least_table.specs.InnerTrees.{LeastPlan, Leaf, Fork, Skip, beside, one_route, plan_routes, with_best}
 use Rattle.least_table.specs.Tables.{inside, own, within}
 use Rattle.least_table.specs.Wholes.{with_own}
 use Rattle.least_table.proofs.Split.{joined, own-joined}
@@ -52,18 +52,17 @@ cut_in_order r hops s h = cond_both (holds hops s) (r s) (([], first_hop hops) �
 joined_order : (l r : List (List Bool × Option ℕ)) → IsInOrder l → IsInOrder r → IsInOrder (joined l r) × (own (joined l r) ≡ None)
 joined_order l r h k = (IsInOrder-joined l r h k, own-joined l r)
 
-IsInOrder-dropped : (s : Option ℕ) → IsInOrder (dropped s)
-IsInOrder-dropped None = tt
-IsInOrder-dropped (Some k) = (tt, tt)
+IsInOrder-one : (k s : Option ℕ) → IsInOrder (one_route k s)
+IsInOrder-one k s = cond_both (is_same_hop s k) [] (([], k) ∷ []) IsInOrder (λ e. tt) (λ e. (tt, tt))
 
-beside_order : (b : Bool) (s : Option ℕ) (t : List (List Bool × Option ℕ)) → IsInOrder t → IsInOrder (beside b s t) × (own (beside b s t) ≡ None)
-beside_order true s t h = joined_order (dropped s) t (IsInOrder-dropped s) h
-beside_order false s t h = joined_order t (dropped s) h (IsInOrder-dropped s)
+beside_order : (b : Bool) (k s : Option ℕ) (t : List (List Bool × Option ℕ)) → IsInOrder t → IsInOrder (beside b k s t) × (own (beside b k s t) ≡ None)
+beside_order true k s t h = joined_order (one_route k s) t (IsInOrder-one k s) h
+beside_order false k s t h = joined_order t (one_route k s) h (IsInOrder-one k s)
 
 pub IsInOrder-routes : (t : LeastPlan) (s : Option ℕ) → IsInOrder (plan_routes t s)
 IsInOrder-routes (Leaf k) s = cut_in_order (λ i. []) (Some k ∷ []) s (λ i. (tt, refl))
 IsInOrder-routes (Fork hops l r) s = cut_in_order (λ k. joined (plan_routes l k) (plan_routes r k)) hops s (λ k. joined_order (plan_routes l k) (plan_routes r k) (IsInOrder-routes l k) (IsInOrder-routes r k))
-IsInOrder-routes (Skip hops b ds t) s = cut_in_order (λ k. beside b k (within ds (plan_routes t k))) hops s (λ k. beside_order b k (within ds (plan_routes t k)) (IsInOrder-within ds (plan_routes t k) (IsInOrder-routes t k)))
+IsInOrder-routes (Skip k hops b ds t) s = cut_in_order (λ i. beside b k i (within ds (plan_routes t i))) hops s (λ i. beside_order b k i (within ds (plan_routes t i)) (IsInOrder-within ds (plan_routes t i) (IsInOrder-routes t i)))
 
 all_after : (x : List Bool) (t : List (List Bool × Option ℕ)) → ComesBeforeAll x t → All (λ r. bits_cmp x r.0 ≡ Less) t
 all_after x [] h = All-nil (λ r. bits_cmp x r.0 ≡ Less)

@@ -1,12 +1,12 @@
 -- Steps that are kept stay what they are while others are appended.
-use Rattle.std.proofs.Common.{◌≡◌, ℕ, zero, suc, ◌<◌, List, [], ◌∷◌, ◌++◌, length, map, slice_index_or, Option, refl, sym, ap, ap₂, ◌∙◌, subst, arith}
+use Rattle.std.proofs.Common.{◌≡◌, ℕ, zero, suc, ◌<◌, List, [], ◌∷◌, ◌++◌, drop, length, map, slice_index_or, Option, refl, sym, ap, ap₂, ◌∙◌, subst, arith}
 use Rattle.std.proofs.lemmas.List.{map-append, length-map, get_or-map}
-use Rattle.ipnet_blocks.specs.Blocks.{digits}
-use Rattle.least_table.specs.InnerSteps.{Step, Cut, step_best}
+use Rattle.least_table.specs.HopSets.{first_hop}
+use Rattle.least_table.specs.InnerSteps.{Step, Around, Halves, step_best}
 use Rattle.least_table.specs.InnerSets.{KeepsSets}
 use Rattle.least_table.specs.InnerPacked.{stored_step, IsKeptStep, AreKept, AreWhole, best_at, steps_in, Grows}
 use Rattle.least_table.specs.declared.plan.Packed.{Packed}
-use Rattle.least_table.specs.declared.plan.Packed.TheVariants.{Leaf, Hop, NoHop, HopOrNone, Set}
+use Rattle.least_table.specs.declared.plan.Packed.TheVariants.{Leaf, Hop, NoHop, HopOrNone, Set, Beside}
 use Rattle.least_table.specs.declared.plan.Steps.{Steps}
 
 module _ (sets new : List (List (Option ℕ))) (keeps : KeepsSets sets new) where
@@ -15,14 +15,16 @@ module _ (sets new : List (List (Option ℕ))) (keeps : KeepsSets sets new) wher
   step_front (Hop n x k) h = refl
   step_front (NoHop n x) h = refl
   step_front (HopOrNone n x k) h = refl
-  step_front (Set n x at) h = ap (λ ks. Cut (digits n x) ks) (keeps at h.2).1
+  step_front (Set at) h = ap (λ ks. Halves ks) (keeps at h).1
+  step_front (Beside upper at) h = ap (λ ks. Around (upper ∷ []) (first_hop ks) (drop 1 ks)) (keeps at h).1
 
   kept_front : (x : Packed) → IsKeptStep sets x → IsKeptStep new x
   kept_front (Leaf k) h = tt
   kept_front (Hop n x k) h = h
   kept_front (NoHop n x) h = h
   kept_front (HopOrNone n x k) h = h
-  kept_front (Set n x at) h = (h.0, h.1, (keeps at h.2).0)
+  kept_front (Set at) h = (keeps at h).0
+  kept_front (Beside upper at) h = (keeps at h).0
 
   steps_front : (xs : List Packed) → AreKept sets xs → map (stored_step new) xs ≡ map (stored_step sets) xs
   steps_front [] h = refl
@@ -73,4 +75,4 @@ module _ (s : Steps) (at : ℕ) (x : Packed) (within : at < length (steps_in s))
   kept_read h = subst (λ y. IsKeptStep s.sets y) (sym e) (kept_at s.sets s.steps at x inside h)
 
   pub best_read : (hops : List (Option ℕ)) → hops ≡ step_best (stored_step s.sets x) → hops ≡ best_at s at
-  best_read hops f = f ∙ ap (λ y. step_best (stored_step s.sets y)) e ∙ ap step_best (sym (get_or-map (stored_step s.sets) s.steps at x (Cut [] []) inside))
+  best_read hops f = f ∙ ap (λ y. step_best (stored_step s.sets y)) e ∙ ap step_best (sym (get_or-map (stored_step s.sets) s.steps at x (Halves []) inside))

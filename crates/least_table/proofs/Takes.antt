@@ -1,14 +1,15 @@
 -- The steps of the plan of a block are taken: those of its halves, or of the smaller block, stand before its own.
-use Rattle.std.proofs.Common.{◌≡◌, ℕ, zero, suc, ◌+◌, ◌<◌, ◌==◌, Bool, true, false, cond, not, ◌&&◌, List, [], ◌∷◌, ◌++◌, length, map, reverse, Option, Some, None, is_some, refl, sym, ap, ap₂, ◌∙◌, subst, arith, append_assoc, append-nil, length-append}
+use Rattle.std.proofs.Common.{◌≡◌, ℕ, suc, ◌+◌, Bool, true, false, cond, not, ◌&&◌, List, [], ◌∷◌, ◌++◌, length, map, reverse, Option, refl, sym, ap, ap₂, ◌∙◌, subst, arith, append_assoc, append-nil, length-append}
 use Rattle.std.proofs.lemmas.List.{reverse-append, reverse-reverse}
 use Rattle.least_table.specs.BestHops.{Of, passed_on}
-use Rattle.least_table.specs.HopSets.{holds}
+use Rattle.least_table.specs.HopSets.{is_same_hop, holds}
 use Rattle.least_table.specs.Pieces.{strings}
 use Rattle.least_table.specs.Tables.{inside, within}
 use Rattle.least_table.specs.InnerPacked.{AreWhole, IsKeptStep, stored_step, steps_in}
 use Rattle.least_table.specs.InnerPlans.{EndsWithin, Stores}
-use Rattle.least_table.specs.InnerSteps.{Step, path_in, step_best, steps_of, top}
+use Rattle.least_table.specs.InnerSteps.{Step, cut_in, step_best, steps_of, top}
 use Rattle.least_table.specs.InnerTrees.{LeastPlan, Leaf, Fork, Skip, PlanFits, beside, plan_best, plan_routes, with_best}
+use Rattle.least_table.specs.declared.plan.Cut.TheVariants as cuts
 use Rattle.least_table.specs.declared.plan.Packed.{Packed}
 use Rattle.least_table.specs.declared.plan.Steps.{Steps}
 use Rattle.least_table.proofs.GrownStores.{beside_stored, cut_stored}
@@ -35,11 +36,6 @@ never_empty xs p s ends e = omega (arith, ap length (sym ends ∙ ap (map (store
 pub ends_at : (n m : ℕ) (xs : List Step) (p : LeastPlan) (s : Steps) → n ≡ m → EndsWithin m xs p s → EndsWithin n xs p s
 ends_at n m xs p s e h = subst (λ i. EndsWithin i xs p s) (sym e) h
 
--- a path that is not empty
-pub some_level : (n : ℕ) → (n == 0) ≡ false → 0 < n
-some_level zero e = cc
-some_level (suc n) e = omega arith
-
 -- the steps but for the last, which is taken off
 abbrev pub left_of : Steps → List Packed → Steps
 left_of old rest = record { steps = rest; sets = old.sets }
@@ -55,13 +51,13 @@ pub record Forked (n : ℕ) (xs : List Step) (p : LeastPlan) (left : Steps) : Ty
   pub above : EndsWithin room (xs ++ steps_of low) high left
   pub below_room : PlanFits room low
 
-pub record Skipped (way : List Bool) (n : ℕ) (xs : List Step) (p : LeastPlan) (left : Steps) : Type 0 where
+pub record Skipped (way : List Bool) (k : Option ℕ) (n : ℕ) (xs : List Step) (p : LeastPlan) (left : Steps) : Type 0 where
   pub hops : List (Option ℕ)
   pub half : Bool
   pub path : List Bool
   pub inner : LeastPlan
   pub room : ℕ
-  pub is : p ≡ Skip hops half path inner
+  pub is : p ≡ Skip k hops half path inner
   pub turns : way ≡ half ∷ path
   pub deep : n ≡ suc (length path + room)
   pub ends : EndsWithin room xs inner left
@@ -80,8 +76,8 @@ module _ (n : ℕ) (old : Steps) (rest : List Packed) (y : Packed) (e : old.step
   pub best_taken : (p : LeastPlan) → EndsWithin n xs p old → step_best step ≡ plan_best p
   best_taken p ends = ap step_best (taken p ends).1 ∙ top_best p
 
-  path_taken : (p : LeastPlan) → EndsWithin n xs p old → path_in step ≡ path_in (top p)
-  path_taken p ends = ap path_in (taken p ends).1
+  cut_taken : (p : LeastPlan) → EndsWithin n xs p old → cut_in step ≡ cut_in (top p)
+  cut_taken p ends = ap cut_in (taken p ends).1
 
   pub left_whole : (p : LeastPlan) → EndsWithin n xs p old → AreWhole left
   left_whole p ends = (kept_popped old rest y e ends.whole).0
@@ -89,14 +85,14 @@ module _ (n : ℕ) (old : Steps) (rest : List Packed) (y : Packed) (e : old.step
   pub step_kept : (p : LeastPlan) → EndsWithin n xs p old → IsKeptStep old.sets y
   step_kept p ends = (kept_popped old rest y e ends.whole).1
 
-  pub leaf_of : (p : LeastPlan) → EndsWithin n xs p old → path_in step ≡ None → (k : ℕ) × (p ≡ Leaf k) × (steps_in left ≡ xs)
+  pub leaf_of : (p : LeastPlan) → EndsWithin n xs p old → cut_in step ≡ cuts.Whole → (k : ℕ) × (p ≡ Leaf k) × (steps_in left ≡ xs)
   leaf_of (Leaf k) ends s = (k, refl, (taken (Leaf k) ends).0 ∙ append-nil xs)
-  leaf_of (Fork hops l r) ends s = let z = sym (path_taken (Fork hops l r) ends) ∙ s in cc
-  leaf_of (Skip hops b ds q) ends s = let z = sym (path_taken (Skip hops b ds q) ends) ∙ s in cc
+  leaf_of (Fork hops l r) ends s = let z = sym (cut_taken (Fork hops l r) ends) ∙ s in cc
+  leaf_of (Skip k hops b ds q) ends s = let z = sym (cut_taken (Skip k hops b ds q) ends) ∙ s in cc
 
-  pub fork_of : (way : List Bool) (p : LeastPlan) → EndsWithin n xs p old → path_in step ≡ Some way → length way ≡ 0 → Forked n xs p left
-  fork_of way (Leaf k) ends s l = let z = sym (path_taken (Leaf k) ends) ∙ s in cc
-  fork_of way (Fork hops low high) ends s l = record {
+  pub fork_of : (p : LeastPlan) → EndsWithin n xs p old → cut_in step ≡ cuts.Halves → Forked n xs p left
+  fork_of (Leaf k) ends s = let z = sym (cut_taken (Leaf k) ends) ∙ s in cc
+  fork_of (Fork hops low high) ends s = record {
     hops = hops;
     low = low;
     high = high;
@@ -106,21 +102,16 @@ module _ (n : ℕ) (old : Steps) (rest : List Packed) (y : Packed) (e : old.step
     above = record { steps = (taken (Fork hops low high) ends).0 ∙ sym (append_assoc xs (steps_of low) (steps_of high)); whole = left_whole (Fork hops low high) ends; room = ends.room.3 };
     below_room = ends.room.2;
   }
-  fork_of way (Skip hops b ds q) ends s l =
-      let z = sym (path_taken (Skip hops b ds q) ends) ∙ s in
-      let turns : way ≡ b ∷ ds = cc in
-      absurd (omega (arith, l, ap length turns))
+  fork_of (Skip k hops b ds q) ends s = let z = sym (cut_taken (Skip k hops b ds q) ends) ∙ s in cc
 
-  pub skip_of : (way : List Bool) (p : LeastPlan) → EndsWithin n xs p old → path_in step ≡ Some way → 0 < length way → Skipped way n xs p left
-  skip_of way (Leaf k) ends s l = let z = sym (path_taken (Leaf k) ends) ∙ s in cc
-  skip_of way (Fork hops low high) ends s l =
-      let z = sym (path_taken (Fork hops low high) ends) ∙ s in
-      let turns : way ≡ [] = cc in
-      absurd (omega (arith, l, ap length turns))
-  skip_of way (Skip hops b ds q) ends s l =
-      let z = sym (path_taken (Skip hops b ds q) ends) ∙ s in
+  pub skip_of : (way : List Bool) (k : Option ℕ) (p : LeastPlan) → EndsWithin n xs p old → cut_in step ≡ cuts.Around way k → Skipped way k n xs p left
+  skip_of way k (Leaf j) ends s = let z = sym (cut_taken (Leaf j) ends) ∙ s in cc
+  skip_of way k (Fork hops low high) ends s = let z = sym (cut_taken (Fork hops low high) ends) ∙ s in cc
+  skip_of way k (Skip j hops b ds q) ends s =
+      let z = sym (cut_taken (Skip j hops b ds q) ends) ∙ s in
       let turns : way ≡ b ∷ ds = cc in
-      record { hops = hops; half = b; path = ds; inner = q; room = ends.room.0; is = refl; turns = turns; deep = ends.room.1; ends = record { steps = (taken (Skip hops b ds q) ends).0; whole = left_whole (Skip hops b ds q) ends; room = ends.room.2 } }
+      let same : j ≡ k = cc in
+      record { hops = hops; half = b; path = ds; inner = q; room = ends.room.0; is = ap (λ i. Skip i hops b ds q) same; turns = turns; deep = ends.room.1; ends = record { steps = (taken (Skip j hops b ds q) ends).0; whole = left_whole (Skip j hops b ds q) ends; room = ends.room.2 } }
 
 -- the plan of the lower half, once the steps of the upper one are taken
 pub low_ends : (n : ℕ) (xs : List Step) (p : LeastPlan) (rest mid : Steps) (f : Forked n xs p rest) → steps_in mid ≡ xs ++ steps_of f.low → AreWhole mid → EndsWithin f.room xs f.low mid
@@ -149,13 +140,14 @@ module _ {B : Type 0} (string : B → List Bool) (b : List Bool) (s k : Option �
         ∙ ap (λ t. t ++ strings string r0) (sym (within-halves b (plan_routes d.low k) (plan_routes d.high k))));
   }
 
-  pub skip_stores : (way : List Bool) (d : Skipped way n xs p left) (is_upper u v : Bool) (q1 q0 q : List Bool) → is_upper ≡ d.half → u ≡ (is_some k && not is_upper) → v ≡ (is_some k && is_upper) → q1 ≡ b ++ true ∷ [] → q0 ≡ b ++ false ∷ [] → q ≡ b ++ way
-      → strings string r1 ≡ cond u ((q1, None) ∷ []) [] ++ strings string r0 → Stores string q k xs d.inner r1 r2 left after → strings string r3 ≡ cond v ((q0, None) ∷ []) [] ++ strings string r2 → Stores string b s xs p r0 r4 old after
-  skip_stores way d is_upper u v q1 q0 q half above below g h i upper inner lower = record {
+  pub skip_stores : (way : List Bool) (j : Option ℕ) (d : Skipped way j n xs p left) (is_upper u v : Bool) (q1 q0 q : List Bool) → is_upper ≡ d.half → u ≡ (not (is_same_hop k j) && not is_upper) → v ≡ (not (is_same_hop k j) && is_upper)
+      → q1 ≡ b ++ true ∷ [] → q0 ≡ b ++ false ∷ [] → q ≡ b ++ way → strings string r1 ≡ cond u ((q1, j) ∷ []) [] ++ strings string r0 → Stores string q k xs d.inner r1 r2 left after → strings string r3 ≡ cond v ((q0, j) ∷ []) [] ++ strings string r2
+      → Stores string b s xs p r0 r4 old after
+  skip_stores way j d is_upper u v q1 q0 q half above below g h i upper inner lower = record {
     steps = inner.steps;
     whole = inner.whole;
-    routes = stored (Skip d.hops d.half d.path d.inner) (λ j. beside d.half j (within d.path (plan_routes d.inner j))) d.is refl
-        (beside_stored b q1 q0 q d.half d.path k (plan_routes d.inner k) (strings string r0) (strings string r1) (strings string r2) (strings string r3) g h (i ∙ ap (λ t. b ++ t) d.turns)
-        (upper ∙ ap (λ c. cond {A = List (List Bool × Option ℕ)} c ((q1, None) ∷ []) [] ++ strings string r0) (above ∙ ap (λ c. is_some k && not c) half)) inner.routes
-        (lower ∙ ap (λ c. cond {A = List (List Bool × Option ℕ)} c ((q0, None) ∷ []) [] ++ strings string r2) (below ∙ ap (λ c. is_some k && c) half)));
+    routes = stored (Skip j d.hops d.half d.path d.inner) (λ l. beside d.half j l (within d.path (plan_routes d.inner l))) d.is refl
+        (beside_stored b q1 q0 q d.half d.path j k (plan_routes d.inner k) (strings string r0) (strings string r1) (strings string r2) (strings string r3) g h (i ∙ ap (λ t. b ++ t) d.turns)
+        (upper ∙ ap (λ c. cond {A = List (List Bool × Option ℕ)} c ((q1, j) ∷ []) [] ++ strings string r0) (above ∙ ap (λ c. not (is_same_hop k j) && not c) half)) inner.routes
+        (lower ∙ ap (λ c. cond {A = List (List Bool × Option ℕ)} c ((q0, j) ∷ []) [] ++ strings string r2) (below ∙ ap (λ c. not (is_same_hop k j) && c) half)));
   }

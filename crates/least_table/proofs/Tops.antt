@@ -1,24 +1,24 @@
 -- Where the steps of a plan stand among others.
 use Rattle.std.proofs.Common.{◌≡◌, ℕ, ◌+◌, ◌-◌, List, [], ◌∷◌, ◌++◌, length, slice_index_or, refl, sym, ap, ap₂, ◌∙◌, arith, append_assoc, length-append}
 use Rattle.std.proofs.Math.Seq.{get_or-append_seam}
-use Rattle.least_table.specs.InnerSteps.{Step, Cut, step_best, steps_of, top}
+use Rattle.least_table.specs.InnerSteps.{Step, Halves, step_best, steps_of, top}
 use Rattle.least_table.specs.InnerTrees.{LeastPlan, Leaf, Fork, Skip, plan_best}
 
 -- all steps but that of the block itself
 abbrev pub below : LeastPlan → List Step
 below (Leaf k) = []
 below (Fork hops l r) = steps_of l ++ steps_of r
-below (Skip hops b ds t) = steps_of t
+below (Skip k hops b ds t) = steps_of t
 
 pub top_last : (p : LeastPlan) → steps_of p ≡ below p ++ top p ∷ []
 top_last (Leaf k) = refl
 top_last (Fork hops l r) = refl
-top_last (Skip hops b ds t) = refl
+top_last (Skip k hops b ds t) = refl
 
 pub top_best : (p : LeastPlan) → step_best (top p) ≡ plan_best p
 top_best (Leaf k) = refl
 top_best (Fork hops l r) = refl
-top_best (Skip hops b ds t) = refl
+top_best (Skip k hops b ds t) = refl
 
 module _ (p : LeastPlan) (old new rest all : List Step) (e : new ≡ old ++ steps_of p) (f : all ≡ new ++ rest) where
   parts : new ≡ (old ++ below p) ++ top p ∷ []
@@ -34,5 +34,5 @@ module _ (p : LeastPlan) (old new rest all : List Step) (e : new ≡ old ++ step
       ap₂ (λ xs i. slice_index_or xs i d) (f ∙ ap (λ t. t ++ rest) parts ∙ append_assoc (old ++ below p) (top p ∷ []) rest) n ∙ get_or-append_seam (old ++ below p) (top p) rest d
 
   -- so what is read there is best handed what the block is
-  pub read_top : (n : ℕ) → n ≡ length new → step_best (slice_index_or all (n - 1) (Cut [] [])) ≡ plan_best p
-  read_top n i = ap (λ m. step_best (slice_index_or all (m - 1) (Cut [] []))) i ∙ ap step_best (top_at (Cut [] [])) ∙ top_best p
+  pub read_top : (n : ℕ) → n ≡ length new → step_best (slice_index_or all (n - 1) (Halves [])) ≡ plan_best p
+  read_top n i = ap (λ m. step_best (slice_index_or all (m - 1) (Halves []))) i ∙ ap step_best (top_at (Halves [])) ∙ top_best p

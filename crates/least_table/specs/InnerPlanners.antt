@@ -1,9 +1,9 @@
 -- The steps of a planner: plans of lower halves, and after them the plan of the block of the last piece.
 use Rattle.std.specs.Prelude.{◌≡◌, ℕ, suc, ◌<◌, ◌≤◌, Bool, true, false, List, [], ◌∷◌, ◌++◌, length, take, reverse, slice_index_or, MatchOption, ⊤}
 use Rattle.least_table.specs.InnerPacked.{AreWhole, steps_in}
-use Rattle.least_table.specs.InnerPlans.{EndsWithPlan, IsPlanOf}
+use Rattle.least_table.specs.InnerPlans.{EndsWithPlan, IsHeld, IsPlanOf}
 use Rattle.least_table.specs.InnerRising.{IsRising}
-use Rattle.least_table.specs.InnerSteps.{Step, steps_of}
+use Rattle.least_table.specs.InnerSteps.{Step}
 use Rattle.least_table.specs.InnerTrees.{LeastPlan, plan_best}
 use Rattle.least_table.specs.declared.plan.Steps.{Steps}
 use Rattle.least_table.specs.declared.planner.Lower.{Lower}
@@ -16,15 +16,14 @@ module _ (w : ℕ) where
     pub ends : EndsWithPlan xs plan s
     pub is : IsPlanOf w d (take d a) ps plan
 
-  -- the last steps are a plan of a lower half; the upper half beside it contains the block a
+  -- the last steps, unless they are held elsewhere, are a plan of a lower half; the upper half beside it contains the block a
   pub record IsLower (a : List Bool) (o : Lower) (ps : List (List Bool × ℕ)) (xs : List Step) : Type 0 where
     pub plan : LeastPlan
     pub pieces : List (List Bool × ℕ)
     pub others : List (List Bool × ℕ)
     pub before : List Step
     pub all : ps ≡ others ++ pieces
-    pub steps : xs ≡ before ++ steps_of plan
-    pub last : suc o.last ≡ length xs
+    pub held : IsHeld o.planned plan before xs
     pub rising : IsRising (plan_best plan)
     pub is : IsPlanOf w (suc o.depth) (take o.depth a ++ false ∷ []) pieces plan
     pub upper : slice_index_or a o.depth false ≡ true

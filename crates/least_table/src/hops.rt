@@ -1,5 +1,5 @@
 //! Sets of hops, as ascending lists: no hop first, and then numbers.
-ghost use Rattle.std.specs.Prelude.{◌≡◌, ◌∷◌, [], IfOk};
+ghost use Rattle.std.specs.Prelude.{◌≡◌, ◌∷◌, [], drop, IfOk};
 ghost use Rattle.least_table.specs.BestHops.{Of, AreMerged};
 ghost use Rattle.least_table.specs.HopSets.{is_same_hop, holds, first_hop};
 ghost use Rattle.least_table.specs.InnerHops.{members};
@@ -61,6 +61,16 @@ pub fn first(hops: &[Option<u32>]) -> Option<u32>
     match hops {
         [hop, ..] => *hop,
         [] => None,
+    }
+}
+
+/// The hops without the first.
+pub(crate) fn others(hops: &[Option<u32>]) -> &[Option<u32>]
+    ensures { result.now ≡ drop 1 hops.now }
+{
+    match hops {
+        [_, others @ ..] => others,
+        [] => hops,
     }
 }
 

@@ -1,17 +1,19 @@
 //! Plans: the best inherited hops of each block, as a sequence of steps.
-ghost use Rattle.std.specs.Prelude.{◌≡◌, ◌-◌, ◌<◌, ◌≤◌, ◌++◌, ◌∷◌, [], List, ℕ, None, Option, Some, Bool, length, suc, IfOk, IfSome, OnOk, is_some, not, ◌&&◌};
+ghost use Rattle.std.specs.Prelude.{◌≡◌, ◌-◌, ◌<◌, ◌≤◌, ◌^◌, ◌++◌, ◌∷◌, [], List, ℕ, None, Option, Some, Bool, drop, length, IfOk, IfSome, MatchOption, OnOk, not, ◌&&◌};
+ghost use Rattle.ipnet_blocks.specs.Blocks.{digits};
 ghost use Rattle.least_table.specs.BestHops.{Of, AreMerged, passed_on};
-ghost use Rattle.least_table.specs.HopSets.{holds};
+ghost use Rattle.least_table.specs.HopSets.{first_hop, holds, is_same_hop};
 ghost use Rattle.least_table.specs.InnerHops.{members};
-ghost use Rattle.least_table.specs.InnerPacked.{AreWhole, Grows, IsKeptStep, best_at, best_in, stored_step, steps_in};
+ghost use Rattle.least_table.specs.InnerPacked.{AreWhole, Grows, IsAlways, IsKeptStep, best_at, best_in, steps_in, stored_step};
 ghost use Rattle.least_table.specs.InnerPlanners.{HasPlan};
-ghost use Rattle.least_table.specs.InnerPlans.{EndsWithPlan, EndsWithin, OfHalf, JoinsHalves, Stores};
+ghost use Rattle.least_table.specs.InnerPlans.{EndsWithPlan, EndsWithin, IsHeld, JoinsHalves, OfHalf, Stores};
 ghost use Rattle.least_table.specs.InnerRising.{IsRising};
-ghost use Rattle.least_table.specs.InnerSteps.{AreNetworks, Cut, IsLonger, Step, Uncut, path_in, step_best, steps_of};
+ghost use Rattle.least_table.specs.InnerSteps.{AreNetworks, Around, Halves, IsLonger, Step, Whole, cut_in, cut_on, step_best};
 ghost use Rattle.least_table.specs.InnerTrees.{LeastPlan, plan_best};
+ghost use Rattle.least_table.specs.declared.plan.LowerPlan.TheVariants as held;
 
 use crate::bits::bit;
-use crate::hops::{Hops, first, is_among, merge};
+use crate::hops::{Hops, first, is_among, is_same, merge, others};
 use crate::kept_sets::KeptSets;
 use crate::routes::Routes;
 use crate::skipped_bits::SkippedBits;
@@ -25,54 +27,73 @@ use trie_core::Path;
 /// the routes outside give its addresses, and needs the fewest routes under its best inherited hops. The step of a block comes after
 /// the steps of the smaller blocks that it is cut into.
 ///
-/// A block that is cut has a number of levels and their bits. Without levels it is cut into halves, the lower half first. Else only
-/// addresses of a smaller block have hops; it is this many levels below, on the path of these bits.
+/// A number of levels and their bits are the path from the block to a smaller one. All addresses outside the smaller block have one
+/// hop, or none of them has one. Without levels the block is cut into halves, the lower half first.
 #[derive(Clone, Copy)]
 enum Packed {
-    /// All addresses of the block have this hop; it isn't cut.
+    /// All addresses of the block have this hop.
     Leaf(u32),
-    /// The block is cut, and this hop is best.
+    /// This hop is best, and that of the addresses outside the smaller block.
     Hop(u8, u16, u32),
-    /// The block is cut, and no hop is best.
+    /// No hop is best, and the addresses outside the smaller block have none.
     NoHop(u8, u16),
-    /// The block is cut, and both no hop and this hop are best.
+    /// Both no hop and this hop are best, and the addresses outside the smaller block have none.
     HopOrNone(u8, u16, u32),
-    /// The block is cut, and the hops of the set with this identifier are best.
-    Set(u8, u16, u32),
+    /// The block is cut into halves. The hops of the set with this identifier are best.
+    Set(u32),
+    /// One half, the upper half if the test is true, is the smaller block. The first hop of the set with this identifier is that of the
+    /// other half. The other hops of the set are best.
+    Beside(bool, u32),
 }
 
-/// The path from a block to the smaller block that its step cuts it to: empty if the step cuts it into halves. `None` if it isn't cut.
-fn path_of_step(step: Packed) -> Option<SkippedBits>
-    requires { (sets : List (List (Option ℕ))) × IsKeptStep sets step }
-    ensures { (sets : List (List (Option ℕ))) → result ≡ path_in (stored_step sets step) }
+/// How a step cuts its block.
+#[derive(Drop)]
+enum Cut {
+    /// It doesn't cut the block.
+    Whole,
+    /// Into halves, the lower first.
+    Halves,
+    /// Into the smaller block on this path, and the addresses around it, which have this hop.
+    Around(SkippedBits, Option<u32>),
+}
+
+/// How a step with this path cuts its block.
+fn cut_on(levels: u8, bits: u16, outside: Option<u32>) -> Cut
+    requires most { levels ≤ 16 }
+    requires fits { bits < 2 ^ levels }
+    ensures { (hops : List (Option ℕ)) → result ≡ cut_in (cut_on (digits levels bits) outside hops) }
 {
-    match step {
-        Packed::Leaf(_) => None,
-        Packed::Hop(levels, bits, _)
-        | Packed::NoHop(levels, bits)
-        | Packed::HopOrNone(levels, bits, _)
-        | Packed::Set(levels, bits, _) => Some(SkippedBits::of(levels, bits)),
+    if levels == 0 {
+        Cut::Halves
+    } else {
+        Cut::Around(SkippedBits::of(levels, bits), outside)
     }
 }
 
-/// The path from the parent of a block to the smaller block that the block's step cuts it to. `None` if there is no smaller block, or if
-/// the path would have too many levels.
-fn longer(step: Packed, is_upper: bool) -> Option<SkippedBits>
-    requires { (sets : List (List (Option ℕ))) × IsKeptStep sets step }
-    ensures { IfSome result (λ turns. (sets : List (List (Option ℕ))) → IsLonger is_upper (stored_step sets step) turns) }
+/// The step of a block that is cut on this path, if this hop is best and that of the addresses outside the smaller block.
+fn one_best(turns: SkippedBits, hop: Option<u32>) -> Packed
+    ensures { IsAlways result (cut_on turns hop (hop ∷ [])) }
 {
-    let turns = path_of_step(step)?;
-    if turns.is_empty() {
-        return None;
+    match hop {
+        Some(hop) => Packed::Hop(turns.levels, turns.bits, hop),
+        None => Packed::NoHop(turns.levels, turns.bits),
     }
-    turns.from_above(is_upper)
 }
 
-/// Whether a half that inherits a hop needs a route `drop`: if it is outside the smaller block, its addresses have no hop.
-fn needs_drop(inherited: Option<u32>, is_outside: bool) -> bool
-    ensures { result ≡ (is_some inherited && is_outside) }
+/// Whether a half needs a route of its own: if it is outside the smaller block, and inherits another hop than its addresses have.
+fn needs_route(inherited: Option<u32>, hop: Option<u32>, is_outside: bool) -> bool
+    ensures { result ≡ (not (is_same_hop inherited hop) && is_outside) }
 {
-    inherited.is_some() && is_outside
+    !is_same(inherited, hop) && is_outside
+}
+
+/// The plan of a lower half.
+#[derive(Clone, Copy)]
+pub(crate) enum LowerPlan {
+    /// All addresses of the half have this hop, and its plan has no step.
+    Leaf(u32),
+    /// The index of the plan's last step.
+    At(usize),
 }
 
 /// The best inherited hops of a block, ascending.
@@ -119,12 +140,11 @@ impl Steps {
         }
     }
 
-    /// The index of the last step.
-    pub(crate) fn last(&self) -> usize
-        requires { (xs : List Step) × (p : LeastPlan) × EndsWithPlan xs p self.now }
-        ensures { suc result ≡ length (steps_in self.now) }
+    /// The number of steps.
+    fn len(&self) -> usize
+        ensures { result ≡ length (steps_in self.now) }
     {
-        self.steps.len() - 1
+        self.steps.len()
     }
 
     /// Appends a step.
@@ -139,31 +159,75 @@ impl Steps {
     /// Appends the step of a block whose addresses all have this hop.
     pub(crate) fn push_leaf(&mut self, hop: u32) -> Result<(), AllocError>
         requires { AreWhole self.old }
-        ensures { OnOk result (Grows self.old self.new (Uncut hop ∷ [])) }
+        ensures { OnOk result (Grows self.old self.new (Whole hop ∷ [])) }
     {
         self.push(Packed::Leaf(hop))
     }
 
-    /// Appends the step of a block that is cut on this path; the hops of this set are best.
-    fn push_set(&mut self, turns: &SkippedBits, hops: &[Option<u32>]) -> Result<(), AllocError>
+    /// Removes the last step, and returns its hop, if all addresses of its block have one hop.
+    fn pop_leaf(&mut self) -> Option<u32>
         requires { AreWhole self.old }
-        ensures { OnOk result (Grows self.old self.new (Cut turns.now hops.now ∷ [])) }
+        ensures { MatchOption result (self.new ≡ self.old) (λ hop. (steps_in self.old ≡ steps_in self.new ++ Whole hop ∷ []) × AreWhole self.new) }
     {
-        let at = self.sets.push(hops)?;
-        self.steps.push(Packed::Set(turns.levels, turns.bits, at))
+        let hop = match self.steps.last() {
+            Some(Packed::Leaf(hop)) => *hop,
+            _ => return None,
+        };
+        self.steps.pop();
+        Some(hop)
     }
 
-    /// Appends the step of a block that is cut on this path; these hops are best.
-    fn push_cut(&mut self, turns: &SkippedBits, hops: &[Option<u32>]) -> Result<(), AllocError>
+    /// Appends the step of a block that is cut into halves; the hops of this set are best.
+    fn push_set(&mut self, hops: &[Option<u32>]) -> Result<(), AllocError>
         requires { AreWhole self.old }
-        ensures { OnOk result (Grows self.old self.new (Cut turns.now hops.now ∷ [])) }
+        ensures { OnOk result (Grows self.old self.new (Halves hops.now ∷ [])) }
+    {
+        let at = self.sets.push(hops)?;
+        self.steps.push(Packed::Set(at))
+    }
+
+    /// Appends the step of a block that is cut into halves; these hops are best.
+    fn push_halves(&mut self, hops: &[Option<u32>]) -> Result<(), AllocError>
+        requires { AreWhole self.old }
+        ensures { OnOk result (Grows self.old self.new (Halves hops.now ∷ [])) }
     {
         match hops {
-            [Some(hop)] => self.push(Packed::Hop(turns.levels, turns.bits, *hop)),
-            [None] => self.push(Packed::NoHop(turns.levels, turns.bits)),
-            [None, Some(hop)] => { self.push(Packed::HopOrNone(turns.levels, turns.bits, *hop)) }
-            _ => self.push_set(turns, hops),
+            [Some(hop)] => self.push(Packed::Hop(0, 0, *hop)),
+            [None] => self.push(Packed::NoHop(0, 0)),
+            [None, Some(hop)] => self.push(Packed::HopOrNone(0, 0, *hop)),
+            _ => self.push_set(hops),
         }
+    }
+
+    /// Appends the step of a block. The last step is that of one half, and the first hop of the set is that of the other half. The other
+    /// hops of the set are best.
+    fn push_beside(&mut self, is_upper: bool, set: &[Option<u32>]) -> Result<(), AllocError>
+        requires { AreWhole self.old }
+        ensures { OnOk result (Grows self.old self.new (Around (is_upper ∷ []) (first_hop set.now) (drop 1 set.now) ∷ [])) }
+    {
+        let at = self.sets.push(set)?;
+        self.steps.push(Packed::Beside(is_upper, at))
+    }
+
+    /// Appends the step of a block. The last step is that of the upper half if `is_upper`, else of the lower half. The other half has this
+    /// hop. The hops of the list are best.
+    fn push_half(
+        &mut self,
+        alloc: Global,
+        is_upper: bool,
+        hop: Option<u32>,
+        hops: &[Option<u32>],
+    ) -> Result<(), AllocError>
+        requires { AreWhole self.old }
+        ensures { OnOk result (Grows self.old self.new (Around (is_upper ∷ []) hop hops.now ∷ [])) }
+    {
+        if let (None, [None, Some(other)]) = (hop, hops) {
+            return self.push(Packed::HopOrNone(1, u16::from(is_upper), *other));
+        }
+        let mut set = Vec::with_capacity(alloc, hops.len())?;
+        set.push(hop)?;
+        set.extend_from_slice(hops)?;
+        self.push_beside(is_upper, &set)
     }
 
     /// The best inherited hops of the block of a step.
@@ -175,7 +239,26 @@ impl Steps {
             Packed::Leaf(hop) | Packed::Hop(_, _, hop) => Best::One(Some(hop)),
             Packed::NoHop(_, _) => Best::One(None),
             Packed::HopOrNone(_, _, hop) => Best::Two([None, Some(hop)]),
-            Packed::Set(_, _, at) => Best::Several(self.sets.get(at)),
+            Packed::Set(at) => Best::Several(self.sets.get(at)),
+            Packed::Beside(_, at) => Best::Several(others(self.sets.get(at))),
+        }
+    }
+
+    /// How a step cuts its block.
+    fn cut(&self, step: Packed) -> Cut
+        requires { IsKeptStep self.now.sets step }
+        ensures { result ≡ cut_in (stored_step self.now.sets step) }
+    {
+        match step {
+            Packed::Leaf(_) => Cut::Whole,
+            Packed::Hop(levels, bits, hop) => cut_on(levels, bits, Some(hop)),
+            Packed::NoHop(levels, bits) | Packed::HopOrNone(levels, bits, _) => {
+                cut_on(levels, bits, None)
+            }
+            Packed::Set(_) => Cut::Halves,
+            Packed::Beside(is_upper, at) => {
+                Cut::Around(SkippedBits::one(is_upper), first(self.sets.get(at)))
+            }
         }
     }
 
@@ -196,30 +279,46 @@ impl Steps {
 
     /// Combines the plans of both halves of a block into one plan. The last step of the lower half's plan is at index `low`, and that of
     /// the upper half's plan is the last step.
-    pub(crate) fn join(&mut self, alloc: Global, low: usize) -> Result<(), AllocError>
-        requires { (xs : List Step) × (ys : List Step) × (p : LeastPlan) × (q : LeastPlan) × (ys ≡ xs ++ steps_of p) × (suc low ≡ length ys) × IsRising (plan_best p) × EndsWithPlan ys q self.old }
-        ensures { OnOk result ((xs : List Step) (ys : List Step) (p : LeastPlan) (q : LeastPlan) → ys ≡ xs ++ steps_of p → suc low ≡ length ys → IsRising (plan_best p) → EndsWithPlan ys q self.old → (r : LeastPlan) × JoinsHalves p q r × EndsWithPlan xs r self.new) }
+    fn fork(&mut self, alloc: Global, low: usize) -> Result<(), AllocError>
+        requires { (xs : List Step) × (ys : List Step) × (p : LeastPlan) × (q : LeastPlan) × IsHeld (held.At low) p xs ys × IsRising (plan_best p) × EndsWithPlan ys q self.old }
+        ensures { OnOk result ((xs : List Step) (ys : List Step) (p : LeastPlan) (q : LeastPlan) → IsHeld (held.At low) p xs ys → IsRising (plan_best p) → EndsWithPlan ys q self.old → (r : LeastPlan) × JoinsHalves p q r × EndsWithPlan xs r self.new) }
     {
-        let high = self.last();
+        let high = self.len() - 1;
         let hops = self.merged(alloc, low, high)?;
-        self.push_cut(&SkippedBits::none(), hops.as_slice())
+        self.push_halves(hops.as_slice())
     }
 
-    /// Makes the plan of one half of a block, the upper half if `is_upper`, the plan of the block. Its other half has no hop.
-    fn widen(&mut self, alloc: Global, is_upper: bool) -> Result<(), AllocError>
+    /// The path from the parent of a block with this step to the smaller block of the step, if the addresses around that have this hop.
+    /// `None` if that isn't so, or if the path would have too many levels.
+    fn longer(&self, step: Packed, is_upper: bool, hop: Option<u32>) -> Option<SkippedBits>
+        requires { IsKeptStep self.now.sets step }
+        ensures { IfSome result (λ turns. IsLonger is_upper hop (stored_step self.now.sets step) turns) }
+    {
+        match self.cut(step) {
+            Cut::Around(turns, outside) if is_same(outside, hop) => turns.from_above(is_upper),
+            _ => None,
+        }
+    }
+
+    /// Makes the plan of one half of a block, the upper half if `is_upper`, the plan of the block. Its other half has this hop.
+    fn widen(&mut self, alloc: Global, is_upper: bool, hop: Option<u32>) -> Result<(), AllocError>
         requires { (xs : List Step) × (p : LeastPlan) × EndsWithPlan xs p self.old }
-        ensures { OnOk result ((xs : List Step) (p : LeastPlan) → EndsWithPlan xs p self.old → (r : LeastPlan) × OfHalf is_upper p r × EndsWithPlan xs r self.new) }
+        ensures { OnOk result ((xs : List Step) (p : LeastPlan) → EndsWithPlan xs p self.old → (r : LeastPlan) × OfHalf is_upper hop p r × EndsWithPlan xs r self.new) }
     {
         let Some(last) = self.steps.last() else {
             return Ok(());
         };
         let last = *last;
-        if let Some(turns) = longer(last, is_upper) {
+        if let Some(turns) = self.longer(last, is_upper, hop) {
             self.steps.pop();
-            return self.push_cut(&turns, &[None]);
+            return self.push(one_best(turns, hop));
         }
-        let hops = merge(alloc, &[None], self.best(last).as_slice())?;
-        self.push_cut(&SkippedBits::one(is_upper), hops.as_slice())
+        let best = self.best(last);
+        if is_among(best.as_slice(), hop) {
+            return self.push(one_best(SkippedBits::one(is_upper), hop));
+        }
+        let hops = merge(alloc, &[hop], best.as_slice())?;
+        self.push_half(alloc, is_upper, hop, hops.as_slice())
     }
 
     /// Makes the plan of the block of the first `from` bits of a path, which is the last one, the plan of the block of its first `to`
@@ -240,9 +339,34 @@ impl Steps {
         let mut at = from;
         while at > to {
             at -= 1;
-            self.widen(alloc, bit(path, at))?;
+            self.widen(alloc, bit(path, at), None)?;
         }
         Ok(())
+    }
+
+    /// Returns the last plan. If all addresses of its block have one hop, its step is removed.
+    pub(crate) fn take_lower(&mut self) -> LowerPlan
+        requires { (xs : List Step) × (p : LeastPlan) × EndsWithPlan xs p self.old }
+        ensures { (xs : List Step) (p : LeastPlan) → EndsWithPlan xs p self.old → IsHeld result p xs (steps_in self.new) × AreWhole self.new }
+    {
+        match self.pop_leaf() {
+            Some(hop) => LowerPlan::Leaf(hop),
+            None => LowerPlan::At(self.len() - 1),
+        }
+    }
+
+    /// Combines the plans of both halves of a block into one plan. That of the upper half is the last one.
+    pub(crate) fn join(&mut self, alloc: Global, low: LowerPlan) -> Result<(), AllocError>
+        requires { (xs : List Step) × (ys : List Step) × (p : LeastPlan) × (q : LeastPlan) × IsHeld low p xs ys × IsRising (plan_best p) × EndsWithPlan ys q self.old }
+        ensures { OnOk result ((xs : List Step) (ys : List Step) (p : LeastPlan) (q : LeastPlan) → IsHeld low p xs ys → IsRising (plan_best p) → EndsWithPlan ys q self.old → (r : LeastPlan) × JoinsHalves p q r × EndsWithPlan xs r self.new) }
+    {
+        match low {
+            LowerPlan::Leaf(hop) => self.widen(alloc, true, Some(hop)),
+            LowerPlan::At(low) => match self.pop_leaf() {
+                Some(hop) => self.widen(alloc, false, Some(hop)),
+                None => self.fork(alloc, low),
+            },
+        }
     }
 
     /// The hop that a block passes on to its parts if it inherits the hop `inherited`, and whether it needs a route for that.
@@ -276,20 +400,20 @@ impl Steps {
             return Ok(());
         };
         let (hop, is_new) = self.choice(step, inherited);
-        match path_of_step(step) {
-            None => routes.add_own(path, hop, is_new),
-            Some(turns) if turns.is_empty() => {
+        match self.cut(step) {
+            Cut::Whole => routes.add_own(path, hop, is_new),
+            Cut::Halves => {
                 self.take(&path.extended(true), hop, routes)?;
                 self.take(&path.extended(false), hop, routes)?;
                 routes.add_own(path, hop, is_new)
             }
-            Some(turns) => {
+            Cut::Around(turns, other) => {
                 let is_upper = turns.turn(0);
-                let above = needs_drop(hop, !is_upper);
-                let below = needs_drop(hop, is_upper);
-                routes.add_own(&path.extended(true), None, above)?;
+                let above = needs_route(hop, other, !is_upper);
+                let below = needs_route(hop, other, is_upper);
+                routes.add_own(&path.extended(true), other, above)?;
                 self.take(&turns.onward(path), hop, routes)?;
-                routes.add_own(&path.extended(false), None, below)?;
+                routes.add_own(&path.extended(false), other, below)?;
                 routes.add_own(path, hop, is_new)
             }
         }

@@ -10,7 +10,7 @@ ghost use Rattle.least_table.specs.InnerSteps.{AreNetworks};
 ghost use Rattle.least_table.specs.InnerPlanners.{AreLowers, ArePlanned, HasPlanned, IsDeeper};
 
 use crate::bits::common;
-use crate::plan::Steps;
+use crate::plan::{LowerPlan, Steps};
 use crate::routes::Routes;
 use prefix_trie::{Key, Prefix, path_of};
 use std::alloc::{AllocError, Global};
@@ -22,8 +22,8 @@ use trie_core::Path;
 struct Lower {
     /// The length of the block that has these halves.
     depth: u8,
-    /// The index of the last step of the lower half's plan.
-    last: usize,
+    /// The plan of the lower half.
+    planned: LowerPlan,
 }
 
 /// Removes and returns the innermost lower half, if its block has at least `depth` bits.
@@ -71,7 +71,7 @@ impl<P: Prefix + Copy> Planner<P> {
         let mut from = path.len();
         while let Some(lower) = innermost(&mut self.lowers, depth) {
             self.steps.ascend(alloc, path, from, lower.depth + 1)?;
-            self.steps.join(alloc, lower.last)?;
+            self.steps.join(alloc, lower.planned)?;
             from = lower.depth;
         }
         self.steps.ascend(alloc, path, from, depth)
@@ -88,8 +88,8 @@ impl<P: Prefix + Copy> Planner<P> {
     {
         let depth = common(last, path);
         self.close(last, depth + 1)?;
-        let step = self.steps.last();
-        self.lowers.push(Lower { depth, last: step })?;
+        let planned = self.steps.take_lower();
+        self.lowers.push(Lower { depth, planned })?;
         Ok(())
     }
 

@@ -1,5 +1,5 @@
 //! The path from a block to a smaller block inside it.
-ghost use Rattle.std.specs.Prelude.{◌≡◌, ◌==◌, ◌+◌, ◌<◌, ◌≤◌, ◌^◌, ◌++◌, ◌∷◌, [], IfSome, false, length, slice_index_or};
+ghost use Rattle.std.specs.Prelude.{◌≡◌, ◌+◌, ◌<◌, ◌≤◌, ◌^◌, ◌++◌, ◌∷◌, [], IfSome, false, length, slice_index_or};
 ghost use Rattle.ipnet_blocks.specs.Blocks.{digits};
 
 use std::marker::Model;
@@ -38,13 +38,6 @@ impl SkippedBits {
         SkippedBits { levels, bits }
     }
 
-    /// Makes the path from a block to itself.
-    pub(crate) fn none() -> SkippedBits
-        ensures { result ≡ [] }
-    {
-        SkippedBits { levels: 0, bits: 0 }
-    }
-
     /// Makes the path to one half.
     pub(crate) fn one(is_upper: bool) -> SkippedBits
         ensures { result ≡ is_upper ∷ [] }
@@ -66,13 +59,6 @@ impl SkippedBits {
             levels: self.levels + 1,
             bits: (u16::from(is_upper) << self.levels) + self.bits,
         })
-    }
-
-    /// Whether the path has no level.
-    pub(crate) fn is_empty(&self) -> bool
-        ensures { result ≡ (length self.now == 0) }
-    {
-        self.levels == 0
     }
 
     /// Whether the path enters the upper half at a level.

@@ -1,9 +1,8 @@
 use Rattle.std.proofs.Common.{rules, arith, ◌≡◌, ◌∙◌, ◌-◌, ◌++◌, ◌∷◌, [], Bool, List, true, false, suc, length, slice_index_or, sym, ap, refl, length-append}
-use Rattle.std.proofs.lemmas.Bool.{eqb-true}
 use Rattle.least_table.specs.InnerPacked.{stored_step}
 use Rattle.least_table.specs.InnerSteps.{steps_of}
 use Rattle.least_table.proofs.Stores.{if_ok_map}
-use Rattle.least_table.proofs.Takes.{never_empty, ends_at, left_of, left_whole, best_taken, step_kept, leaf_of, fork_of, skip_of, low_ends, leaf_stores, fork_stores, skip_stores, some_level}
+use Rattle.least_table.proofs.Takes.{never_empty, ends_at, left_of, left_whole, best_taken, step_kept, leaf_of, fork_of, skip_of, low_ends, leaf_stores, fork_stores, skip_stores}
 use Rattle.least_table.proofs.plan.Steps.+take.Goals as goal
 
 -- the string of a half is longer by one
@@ -16,97 +15,97 @@ returns-in_default-clause-stores g t c = λ xs p ends. absurd (never_empty xs p 
 pub choice-hop-requires : goal.choice-hop-requires
 choice-hop-requires g t c = step_kept (g.P.R.Key.width - length c.args.path.now) c.args.self.now c.pop.new.self c.in-Some.step c.in-Some.ensures c.requires.plan.0 c.requires.plan.1 c.requires.plan.2
 
-pub path_of_step-requires : goal.path_of_step-requires
-path_of_step-requires g t c = (c.args.self.now.sets, step_kept (g.P.R.Key.width - length c.args.path.now) c.args.self.now c.pop.new.self c.in-Some.step c.in-Some.ensures c.requires.plan.0 c.requires.plan.1 c.requires.plan.2)
+pub cut-requires : goal.cut-requires
+cut-requires g t c = (step_kept (g.P.R.Key.width - length c.args.path.now) c.args.self.now c.pop.new.self c.in-Some.step c.in-Some.ensures c.requires.plan.0 c.requires.plan.1 c.requires.plan.2)
 
-pub returns-in-None-clause-stores : goal.returns-in-None-clause-stores
-returns-in-None-clause-stores g t c = if_ok_map c.add_own.result
+pub returns-in-Whole-clause-stores : goal.returns-in-Whole-clause-stores
+returns-in-Whole-clause-stores g t c = if_ok_map c.add_own.result
     (λ _ e xs p ends.
     leaf_stores g.P.Prefix.bits c.args.path.now c.args.inherited c.choice-hop.result.0 c.choice-hop.result.1 (g.P.R.Key.width - length c.args.path.now) xs p (stored_step c.args.self.now.sets c.in-Some.step) (left_of c.args.self.now c.pop.new.self) c.args.self.now c.args.self.now c.args.self.now c.args.routes.now c.args.routes.now c.args.routes.now c.args.routes.now _ (best_taken (g.P.R.Key.width - length c.args.path.now) c.args.self.now c.pop.new.self c.in-Some.step c.in-Some.ensures xs p ends) c.choice-hop.ensures.hop c.choice-hop.ensures.route e
-    (leaf_of (g.P.R.Key.width - length c.args.path.now) c.args.self.now c.pop.new.self c.in-Some.step c.in-Some.ensures xs p ends (sym (c.path_of_step.ensures c.args.self.now.sets) ∙ c.in-None.is)) (left_whole (g.P.R.Key.width - length c.args.path.now) c.args.self.now c.pop.new.self c.in-Some.step c.in-Some.ensures xs p ends) refl)
+    (leaf_of (g.P.R.Key.width - length c.args.path.now) c.args.self.now c.pop.new.self c.in-Some.step c.in-Some.ensures xs p ends (sym c.cut.ensures ∙ c.in-Whole.is)) (left_whole (g.P.R.Key.width - length c.args.path.now) c.args.self.now c.pop.new.self c.in-Some.step c.in-Some.ensures xs p ends) refl)
     c.add_own.ensures.routes
 
 pub extended-requires : goal.extended-requires
 extended-requires g t c =
-    let f = fork_of (g.P.R.Key.width - length c.args.path.now) c.args.self.now c.pop.new.self c.in-Some.step c.in-Some.ensures c.requires.plan.0 c.in-Some-path_of_step.turns c.requires.plan.1 c.requires.plan.2 (sym (c.path_of_step.ensures c.args.self.now.sets) ∙ c.in-Some-path_of_step.is) (eqb-true _ _ (sym c.is_empty.ensures ∙ c.if-is_empty.true)) in
+    let f = fork_of (g.P.R.Key.width - length c.args.path.now) c.args.self.now c.pop.new.self c.in-Some.step c.in-Some.ensures c.requires.plan.0 c.requires.plan.1 c.requires.plan.2 (sym c.cut.ensures ∙ c.in-Halves.is) in
     omega (arith, f.deep, c.requires.short)
 
 pub take-requires : goal.take-requires
 take-requires g t c κs within =
-    let f = fork_of (g.P.R.Key.width - length c.args.path.now) c.args.self.now c.pop.new.self c.in-Some.step c.in-Some.ensures c.requires.plan.0 c.in-Some-path_of_step.turns c.requires.plan.1 c.requires.plan.2 (sym (c.path_of_step.ensures c.args.self.now.sets) ∙ c.in-Some-path_of_step.is) (eqb-true _ _ (sym c.is_empty.ensures ∙ c.if-is_empty.true)) in
+    let f = fork_of (g.P.R.Key.width - length c.args.path.now) c.args.self.now c.pop.new.self c.in-Some.step c.in-Some.ensures c.requires.plan.0 c.requires.plan.1 c.requires.plan.2 (sym c.cut.ensures ∙ c.in-Halves.is) in
     let long = half_length c.args.path.now c.extended.result true c.extended.ensures in
     (omega (arith, long, f.deep), (search rules, (search rules, (c.requires.short, (omega (arith, long, f.deep), (c.requires.plan.0 ++ steps_of f.low, f.high, ends_at _ _ _ _ _ (omega (arith, long, f.deep)) f.above))))))
 
-pub extended-requires-in-Some-path_of_step : goal.extended-requires-in-Some-path_of_step
-extended-requires-in-Some-path_of_step g t c =
-    let f = fork_of (g.P.R.Key.width - length c.args.path.now) c.args.self.now c.pop.new.self c.in-Some.step c.in-Some.ensures c.requires.plan.0 c.in-Some-path_of_step.turns c.requires.plan.1 c.requires.plan.2 (sym (c.path_of_step.ensures c.args.self.now.sets) ∙ c.in-Some-path_of_step.is) (eqb-true _ _ (sym c.is_empty.ensures ∙ c.if-is_empty.true)) in
+pub extended-requires-in-Halves : goal.extended-requires-in-Halves
+extended-requires-in-Halves g t c =
+    let f = fork_of (g.P.R.Key.width - length c.args.path.now) c.args.self.now c.pop.new.self c.in-Some.step c.in-Some.ensures c.requires.plan.0 c.requires.plan.1 c.requires.plan.2 (sym c.cut.ensures ∙ c.in-Halves.is) in
     omega (arith, f.deep, c.requires.short)
 
-pub take-requires-in-Some-path_of_step : goal.take-requires-in-Some-path_of_step
-take-requires-in-Some-path_of_step g t c κs within =
-    let f = fork_of (g.P.R.Key.width - length c.args.path.now) c.args.self.now c.pop.new.self c.in-Some.step c.in-Some.ensures c.requires.plan.0 c.in-Some-path_of_step.turns c.requires.plan.1 c.requires.plan.2 (sym (c.path_of_step.ensures c.args.self.now.sets) ∙ c.in-Some-path_of_step.is) (eqb-true _ _ (sym c.is_empty.ensures ∙ c.if-is_empty.true)) in
+pub take-requires-in-Halves : goal.take-requires-in-Halves
+take-requires-in-Halves g t c κs within =
+    let f = fork_of (g.P.R.Key.width - length c.args.path.now) c.args.self.now c.pop.new.self c.in-Some.step c.in-Some.ensures c.requires.plan.0 c.requires.plan.1 c.requires.plan.2 (sym c.cut.ensures ∙ c.in-Halves.is) in
     let up = half_length c.args.path.now c.extended.result true c.extended.ensures in
-    let long = half_length c.args.path.now c.extended-in-Some-path_of_step.result false c.extended-in-Some-path_of_step.ensures in
-    let s = c.in_ok-take-in-Some-path_of_step.ensures.stores (c.requires.plan.0 ++ steps_of f.low) f.high (ends_at _ _ _ _ _ (omega (arith, up, f.deep)) f.above) in
+    let long = half_length c.args.path.now c.extended-in-Halves.result false c.extended-in-Halves.ensures in
+    let s = c.in_ok-take-in-Halves.ensures.stores (c.requires.plan.0 ++ steps_of f.low) f.high (ends_at _ _ _ _ _ (omega (arith, up, f.deep)) f.above) in
     (omega (arith, long, f.deep), (search rules, (search rules, (c.requires.short, (omega (arith, long, f.deep), (c.requires.plan.0, f.low, ends_at _ _ _ _ _ (omega (arith, long, f.deep)) (low_ends _ _ _ _ _ f s.steps s.whole)))))))
 
-pub returns-in_ok-take-in-Some-path_of_step-2-clause-stores : goal.returns-in_ok-take-in-Some-path_of_step-2-clause-stores
-returns-in_ok-take-in-Some-path_of_step-2-clause-stores g t c = if_ok_map c.add_own-in-Some-path_of_step.result
+pub returns-in_ok-take-in-Halves-2-clause-stores : goal.returns-in_ok-take-in-Halves-2-clause-stores
+returns-in_ok-take-in-Halves-2-clause-stores g t c = if_ok_map c.add_own-in-Halves.result
     (λ _ e xs p ends.
-    let f = fork_of (g.P.R.Key.width - length c.args.path.now) c.args.self.now c.pop.new.self c.in-Some.step c.in-Some.ensures xs c.in-Some-path_of_step.turns p ends (sym (c.path_of_step.ensures c.args.self.now.sets) ∙ c.in-Some-path_of_step.is) (eqb-true _ _ (sym c.is_empty.ensures ∙ c.if-is_empty.true)) in
+    let f = fork_of (g.P.R.Key.width - length c.args.path.now) c.args.self.now c.pop.new.self c.in-Some.step c.in-Some.ensures xs p ends (sym c.cut.ensures ∙ c.in-Halves.is) in
     let up = half_length c.args.path.now c.extended.result true c.extended.ensures in
-    let long = half_length c.args.path.now c.extended-in-Some-path_of_step.result false c.extended-in-Some-path_of_step.ensures in
-    let s = c.in_ok-take-in-Some-path_of_step.ensures.stores (xs ++ steps_of f.low) f.high (ends_at _ _ _ _ _ (omega (arith, up, f.deep)) f.above) in
-    let u = (c.in_ok-take-in-Some-path_of_step-2).ensures.stores xs f.low (ends_at _ _ _ _ _ (omega (arith, long, f.deep)) (low_ends _ _ _ _ _ f s.steps s.whole)) in
-    fork_stores g.P.Prefix.bits c.args.path.now c.args.inherited c.choice-hop.result.0 c.choice-hop.result.1 (g.P.R.Key.width - length c.args.path.now) xs p (stored_step c.args.self.now.sets c.in-Some.step) (left_of c.args.self.now c.pop.new.self) _ _ c.args.self.now _ _ c.args.routes.now _ _ (best_taken (g.P.R.Key.width - length c.args.path.now) c.args.self.now c.pop.new.self c.in-Some.step c.in-Some.ensures xs p ends) c.choice-hop.ensures.hop c.choice-hop.ensures.route e f c.extended.result c.extended-in-Some-path_of_step.result c.extended.ensures c.extended-in-Some-path_of_step.ensures s u)
-    c.add_own-in-Some-path_of_step.ensures.routes
+    let long = half_length c.args.path.now c.extended-in-Halves.result false c.extended-in-Halves.ensures in
+    let s = c.in_ok-take-in-Halves.ensures.stores (xs ++ steps_of f.low) f.high (ends_at _ _ _ _ _ (omega (arith, up, f.deep)) f.above) in
+    let u = (c.in_ok-take-in-Halves-2).ensures.stores xs f.low (ends_at _ _ _ _ _ (omega (arith, long, f.deep)) (low_ends _ _ _ _ _ f s.steps s.whole)) in
+    fork_stores g.P.Prefix.bits c.args.path.now c.args.inherited c.choice-hop.result.0 c.choice-hop.result.1 (g.P.R.Key.width - length c.args.path.now) xs p (stored_step c.args.self.now.sets c.in-Some.step) (left_of c.args.self.now c.pop.new.self) _ _ c.args.self.now _ _ c.args.routes.now _ _ (best_taken (g.P.R.Key.width - length c.args.path.now) c.args.self.now c.pop.new.self c.in-Some.step c.in-Some.ensures xs p ends) c.choice-hop.ensures.hop c.choice-hop.ensures.route e f c.extended.result c.extended-in-Halves.result c.extended.ensures c.extended-in-Halves.ensures s u)
+    c.add_own-in-Halves.ensures.routes
 
-pub returns-in_ok-take-in-Some-path_of_step-2-clause-networks : goal.returns-in_ok-take-in-Some-path_of_step-2-clause-networks
-returns-in_ok-take-in-Some-path_of_step-2-clause-networks g t c =
-    if_ok_map c.add_own-in-Some-path_of_step.result (λ _ kept n. kept ((c.in_ok-take-in-Some-path_of_step-2).ensures.networks (c.in_ok-take-in-Some-path_of_step.ensures.networks n))) c.add_own-in-Some-path_of_step.ensures.networks
+pub returns-in_ok-take-in-Halves-2-clause-networks : goal.returns-in_ok-take-in-Halves-2-clause-networks
+returns-in_ok-take-in-Halves-2-clause-networks g t c =
+    if_ok_map c.add_own-in-Halves.result (λ _ kept n. kept ((c.in_ok-take-in-Halves-2).ensures.networks (c.in_ok-take-in-Halves.ensures.networks n))) c.add_own-in-Halves.ensures.networks
 
-pub extended-requires-in-Some-2 : goal.extended-requires-in-Some-2
-extended-requires-in-Some-2 g t c =
-    let f = skip_of (g.P.R.Key.width - length c.args.path.now) c.args.self.now c.pop.new.self c.in-Some.step c.in-Some.ensures c.requires.plan.0 c.in-Some-path_of_step.turns c.requires.plan.1 c.requires.plan.2 (sym (c.path_of_step.ensures c.args.self.now.sets) ∙ c.in-Some-path_of_step.is) (some_level _ (sym c.is_empty.ensures ∙ c.if-is_empty.false)) in
+pub extended-requires-in-Around : goal.extended-requires-in-Around
+extended-requires-in-Around g t c =
+    let f = skip_of (g.P.R.Key.width - length c.args.path.now) c.args.self.now c.pop.new.self c.in-Some.step c.in-Some.ensures c.requires.plan.0 c.in-Around.turns c.in-Around.other c.requires.plan.1 c.requires.plan.2 (sym c.cut.ensures ∙ c.in-Around.is) in
     omega (arith, f.deep, c.requires.short)
 
-pub add_own-requires-in-Some-2 : goal.add_own-requires-in-Some-2
-add_own-requires-in-Some-2 g t c =
-    let f = skip_of (g.P.R.Key.width - length c.args.path.now) c.args.self.now c.pop.new.self c.in-Some.step c.in-Some.ensures c.requires.plan.0 c.in-Some-path_of_step.turns c.requires.plan.1 c.requires.plan.2 (sym (c.path_of_step.ensures c.args.self.now.sets) ∙ c.in-Some-path_of_step.is) (some_level _ (sym c.is_empty.ensures ∙ c.if-is_empty.false)) in
-    omega (arith, f.deep, half_length c.args.path.now c.extended-in-Some-2.result true c.extended-in-Some-2.ensures)
+pub add_own-requires-in-Around : goal.add_own-requires-in-Around
+add_own-requires-in-Around g t c =
+    let f = skip_of (g.P.R.Key.width - length c.args.path.now) c.args.self.now c.pop.new.self c.in-Some.step c.in-Some.ensures c.requires.plan.0 c.in-Around.turns c.in-Around.other c.requires.plan.1 c.requires.plan.2 (sym c.cut.ensures ∙ c.in-Around.is) in
+    omega (arith, f.deep, half_length c.args.path.now c.extended-in-Around.result true c.extended-in-Around.ensures)
 
 pub onward-requires : goal.onward-requires
 onward-requires g t c =
-    let f = skip_of (g.P.R.Key.width - length c.args.path.now) c.args.self.now c.pop.new.self c.in-Some.step c.in-Some.ensures c.requires.plan.0 c.in-Some-path_of_step.turns c.requires.plan.1 c.requires.plan.2 (sym (c.path_of_step.ensures c.args.self.now.sets) ∙ c.in-Some-path_of_step.is) (some_level _ (sym c.is_empty.ensures ∙ c.if-is_empty.false)) in
+    let f = skip_of (g.P.R.Key.width - length c.args.path.now) c.args.self.now c.pop.new.self c.in-Some.step c.in-Some.ensures c.requires.plan.0 c.in-Around.turns c.in-Around.other c.requires.plan.1 c.requires.plan.2 (sym c.cut.ensures ∙ c.in-Around.is) in
     omega (arith, f.deep, ap length f.turns, c.requires.short, c.requires.inside)
 
-pub take-requires-in-Some-2 : goal.take-requires-in-Some-2
-take-requires-in-Some-2 g t c κs within =
-    let f = skip_of (g.P.R.Key.width - length c.args.path.now) c.args.self.now c.pop.new.self c.in-Some.step c.in-Some.ensures c.requires.plan.0 c.in-Some-path_of_step.turns c.requires.plan.1 c.requires.plan.2 (sym (c.path_of_step.ensures c.args.self.now.sets) ∙ c.in-Some-path_of_step.is) (some_level _ (sym c.is_empty.ensures ∙ c.if-is_empty.false)) in
-    let long = ap length c.onward.ensures ∙ length-append c.args.path.now c.in-Some-path_of_step.turns in
+pub take-requires-in-Around : goal.take-requires-in-Around
+take-requires-in-Around g t c κs within =
+    let f = skip_of (g.P.R.Key.width - length c.args.path.now) c.args.self.now c.pop.new.self c.in-Some.step c.in-Some.ensures c.requires.plan.0 c.in-Around.turns c.in-Around.other c.requires.plan.1 c.requires.plan.2 (sym c.cut.ensures ∙ c.in-Around.is) in
+    let long = ap length c.onward.ensures ∙ length-append c.args.path.now c.in-Around.turns in
     (omega (arith, long, f.deep, ap length f.turns), (search rules, (search rules, (c.requires.short, (omega (arith, long, f.deep, ap length f.turns), (c.requires.plan.0, f.inner, ends_at _ _ _ _ _ (omega (arith, long, f.deep, ap length f.turns)) f.ends))))))
 
-pub extended-requires-in-Some-2-2 : goal.extended-requires-in-Some-2-2
-extended-requires-in-Some-2-2 g t c =
-    let f = skip_of (g.P.R.Key.width - length c.args.path.now) c.args.self.now c.pop.new.self c.in-Some.step c.in-Some.ensures c.requires.plan.0 c.in-Some-path_of_step.turns c.requires.plan.1 c.requires.plan.2 (sym (c.path_of_step.ensures c.args.self.now.sets) ∙ c.in-Some-path_of_step.is) (some_level _ (sym c.is_empty.ensures ∙ c.if-is_empty.false)) in
+pub extended-requires-in-Around-2 : goal.extended-requires-in-Around-2
+extended-requires-in-Around-2 g t c =
+    let f = skip_of (g.P.R.Key.width - length c.args.path.now) c.args.self.now c.pop.new.self c.in-Some.step c.in-Some.ensures c.requires.plan.0 c.in-Around.turns c.in-Around.other c.requires.plan.1 c.requires.plan.2 (sym c.cut.ensures ∙ c.in-Around.is) in
     omega (arith, f.deep, c.requires.short)
 
-pub add_own-requires-in-Some-2-2 : goal.add_own-requires-in-Some-2-2
-add_own-requires-in-Some-2-2 g t c =
-    let f = skip_of (g.P.R.Key.width - length c.args.path.now) c.args.self.now c.pop.new.self c.in-Some.step c.in-Some.ensures c.requires.plan.0 c.in-Some-path_of_step.turns c.requires.plan.1 c.requires.plan.2 (sym (c.path_of_step.ensures c.args.self.now.sets) ∙ c.in-Some-path_of_step.is) (some_level _ (sym c.is_empty.ensures ∙ c.if-is_empty.false)) in
-    omega (arith, f.deep, half_length c.args.path.now c.extended-in-Some-2-2.result false c.extended-in-Some-2-2.ensures)
+pub add_own-requires-in-Around-2 : goal.add_own-requires-in-Around-2
+add_own-requires-in-Around-2 g t c =
+    let f = skip_of (g.P.R.Key.width - length c.args.path.now) c.args.self.now c.pop.new.self c.in-Some.step c.in-Some.ensures c.requires.plan.0 c.in-Around.turns c.in-Around.other c.requires.plan.1 c.requires.plan.2 (sym c.cut.ensures ∙ c.in-Around.is) in
+    omega (arith, f.deep, half_length c.args.path.now c.extended-in-Around-2.result false c.extended-in-Around-2.ensures)
 
-pub returns-in_ok-add_own-in-Some-2-2-clause-stores : goal.returns-in_ok-add_own-in-Some-2-2-clause-stores
-returns-in_ok-add_own-in-Some-2-2-clause-stores g t c = if_ok_map c.add_own-in-Some-2-3.result
+pub returns-in_ok-add_own-in-Around-2-clause-stores : goal.returns-in_ok-add_own-in-Around-2-clause-stores
+returns-in_ok-add_own-in-Around-2-clause-stores g t c = if_ok_map c.add_own-in-Around-3.result
     (λ _ e xs p ends.
-    let f = skip_of (g.P.R.Key.width - length c.args.path.now) c.args.self.now c.pop.new.self c.in-Some.step c.in-Some.ensures xs c.in-Some-path_of_step.turns p ends (sym (c.path_of_step.ensures c.args.self.now.sets) ∙ c.in-Some-path_of_step.is) (some_level _ (sym c.is_empty.ensures ∙ c.if-is_empty.false)) in
-    let long = ap length c.onward.ensures ∙ length-append c.args.path.now c.in-Some-path_of_step.turns in
-    let s = c.in_ok-take-in-Some-2.ensures.stores xs f.inner (ends_at _ _ _ _ _ (omega (arith, long, f.deep, ap length f.turns)) f.ends) in
-    skip_stores g.P.Prefix.bits c.args.path.now c.args.inherited c.choice-hop.result.0 c.choice-hop.result.1 (g.P.R.Key.width - length c.args.path.now) xs p (stored_step c.args.self.now.sets c.in-Some.step) (left_of c.args.self.now c.pop.new.self) c.args.self.now _ c.args.self.now c.args.routes.now _ _ _ _ (best_taken (g.P.R.Key.width - length c.args.path.now) c.args.self.now c.pop.new.self c.in-Some.step c.in-Some.ensures xs p ends) c.choice-hop.ensures.hop c.choice-hop.ensures.route e c.in-Some-path_of_step.turns f c.turn-is_upper.result c.needs_drop-above.result c.needs_drop-below.result
-    c.extended-in-Some-2.result c.extended-in-Some-2-2.result c.onward.result (c.turn-is_upper.ensures ∙ ap (λ ds. slice_index_or ds 0 false) f.turns) c.needs_drop-above.ensures c.needs_drop-below.ensures
-    c.extended-in-Some-2.ensures c.extended-in-Some-2-2.ensures c.onward.ensures c.in_ok-add_own-in-Some-2.ensures.routes s (c.in_ok-add_own-in-Some-2-2).ensures.routes)
-    c.add_own-in-Some-2-3.ensures.routes
+    let f = skip_of (g.P.R.Key.width - length c.args.path.now) c.args.self.now c.pop.new.self c.in-Some.step c.in-Some.ensures xs c.in-Around.turns c.in-Around.other p ends (sym c.cut.ensures ∙ c.in-Around.is) in
+    let long = ap length c.onward.ensures ∙ length-append c.args.path.now c.in-Around.turns in
+    let s = c.in_ok-take-in-Around.ensures.stores xs f.inner (ends_at _ _ _ _ _ (omega (arith, long, f.deep, ap length f.turns)) f.ends) in
+    skip_stores g.P.Prefix.bits c.args.path.now c.args.inherited c.choice-hop.result.0 c.choice-hop.result.1 (g.P.R.Key.width - length c.args.path.now) xs p (stored_step c.args.self.now.sets c.in-Some.step) (left_of c.args.self.now c.pop.new.self) c.args.self.now _ c.args.self.now c.args.routes.now _ _ _ _ (best_taken (g.P.R.Key.width - length c.args.path.now) c.args.self.now c.pop.new.self c.in-Some.step c.in-Some.ensures xs p ends) c.choice-hop.ensures.hop c.choice-hop.ensures.route e c.in-Around.turns c.in-Around.other f c.turn-is_upper.result c.needs_route-above.result c.needs_route-below.result
+    c.extended-in-Around.result c.extended-in-Around-2.result c.onward.result (c.turn-is_upper.ensures ∙ ap (λ ds. slice_index_or ds 0 false) f.turns) c.needs_route-above.ensures c.needs_route-below.ensures
+    c.extended-in-Around.ensures c.extended-in-Around-2.ensures c.onward.ensures c.in_ok-add_own-in-Around.ensures.routes s (c.in_ok-add_own-in-Around-2).ensures.routes)
+    c.add_own-in-Around-3.ensures.routes
 
-pub returns-in_ok-add_own-in-Some-2-2-clause-networks : goal.returns-in_ok-add_own-in-Some-2-2-clause-networks
-returns-in_ok-add_own-in-Some-2-2-clause-networks g t c =
-    if_ok_map c.add_own-in-Some-2-3.result (λ _ kept n. kept ((c.in_ok-add_own-in-Some-2-2).ensures.networks (c.in_ok-take-in-Some-2.ensures.networks (c.in_ok-add_own-in-Some-2.ensures.networks n)))) c.add_own-in-Some-2-3.ensures.networks
+pub returns-in_ok-add_own-in-Around-2-clause-networks : goal.returns-in_ok-add_own-in-Around-2-clause-networks
+returns-in_ok-add_own-in-Around-2-clause-networks g t c =
+    if_ok_map c.add_own-in-Around-3.result (λ _ kept n. kept ((c.in_ok-add_own-in-Around-2).ensures.networks (c.in_ok-take-in-Around.ensures.networks (c.in_ok-add_own-in-Around.ensures.networks n)))) c.add_own-in-Around-3.ensures.networks

@@ -27,7 +27,7 @@ join-requires g c =
     let h = c.loop-lower.invariant.planned c.requires.planned.0 c.requires.planned.1 in
     let z = opened g.P.R.Key.width c.args.path.now c.loop-lower.from c.loop-lower.from c.requires.planned.0 c.loop-lower.self.lowers.items c.innermost.new.lowers.items c.in-Some.lower c.loop-lower.self.steps h c.in-Some.ensures.1 in
     let m = c.in_ok-ascend.ensures g.P.R.Key.width h.pieces h.before c.requires.width h.plans in
-    (z.1.before, h.before, z.1.plan, m.plan, z.1.steps, z.1.last, z.1.rising, m.ends)
+    (z.1.before, h.before, z.1.plan, m.plan, z.1.held, z.1.rising, m.ends)
 
 pub loop-lower-preserved : goal.loop-lower-preserved
 loop-lower-preserved g c =
@@ -40,7 +40,7 @@ loop-lower-preserved g c =
           let k = c.loop-lower.invariant.planned ps before in
           let z = opened g.P.R.Key.width c.args.path.now c.loop-lower.from c.loop-lower.from ps c.loop-lower.self.lowers.items c.innermost.new.lowers.items c.in-Some.lower c.loop-lower.self.steps k c.in-Some.ensures.1 in
           let m = c.in_ok-ascend.ensures g.P.R.Key.width k.pieces k.before c.requires.width k.plans in
-          let r = c.in_ok-join.ensures z.1.before k.before z.1.plan m.plan z.1.steps z.1.last z.1.rising m.ends in
+          let r = c.in_ok-join.ensures z.1.before k.before z.1.plan m.plan z.1.held z.1.rising m.ends in
           record {
             others = z.1.others;
             pieces = z.1.pieces ++ k.pieces;
