@@ -2,7 +2,7 @@
 use Rattle.std.proofs.Common.{◌≡◌, ℕ, Bool, true, false, cond, not, ◌&&◌, List, [], ◌∷◌, ◌++◌, Option, refl, sym, ap, ap₂, ◌∙◌, append_assoc, append-nil}
 use Rattle.least_table.specs.BestHops.{Of, passed_on}
 use Rattle.least_table.specs.HopSets.{is_same_hop, holds, first_hop}
-use Rattle.least_table.specs.InnerTrees.{beside, one_route, with_best}
+use Rattle.least_table.specs.InnerTrees.{beside, lone_route, with_best}
 use Rattle.least_table.specs.Tables.{inside, within}
 use Rattle.least_table.proofs.Stores.{within-halves, within_within}
 
@@ -31,7 +31,7 @@ cut_stored b hops parts s k is_new old mid new e f g h = h ∙ ap₂ (λ t u. t 
     own = ap₂ (λ n j. cond {A = List (List Bool × Option ℕ)} n ((b, j) ∷ []) []) f e ∙ own_route (holds hops s)
 
 -- a half whose addresses have one hop
-one_stored : (b : List Bool) (j k : Option ℕ) → cond {A = List (List Bool × Option ℕ)} (not (is_same_hop k j)) ((b, j) ∷ []) [] ≡ within b (one_route j k)
+one_stored : (b : List Bool) (j k : Option ℕ) → cond {A = List (List Bool × Option ℕ)} (not (is_same_hop k j)) ((b, j) ∷ []) [] ≡ within b (lone_route j k)
 one_stored b j k = go (is_same_hop k j)
   where
     go : (c : Bool) → cond {A = List (List Bool × Option ℕ)} (not c) ((b, j) ∷ []) [] ≡ within b (cond c [] (([], j) ∷ []))
@@ -58,8 +58,8 @@ beside_stored b q1 q0 q half ds j k t r0 r1 r2 r3 e1 e0 e upper inner lower = go
     go true f up low =
         low ∙ ap₂ (λ x y. x ++ y) (ap₂ (λ c u. cond {A = List (List Bool × Option ℕ)} c ((u, j) ∷ []) []) (a_route (not (is_same_hop k j))) e0 ∙ one_stored (b ++ false ∷ []) j k)
         (inner ∙ ap₂ (λ x y. x ++ y) f (up ∙ ap (λ c. cond {A = List (List Bool × Option ℕ)} c ((q1, j) ∷ []) [] ++ r0) (no_route (not (is_same_hop k j)))))
-        ∙ sym (append_assoc (within (b ++ false ∷ []) (one_route j k)) (within (b ++ true ∷ []) (within ds t)) r0) ∙ ap (λ x. x ++ r0) (sym (within-halves b (one_route j k) (within ds t)))
+        ∙ sym (append_assoc (within (b ++ false ∷ []) (lone_route j k)) (within (b ++ true ∷ []) (within ds t)) r0) ∙ ap (λ x. x ++ r0) (sym (within-halves b (lone_route j k) (within ds t)))
     go false f up low =
         low ∙ ap (λ c. cond {A = List (List Bool × Option ℕ)} c ((q0, j) ∷ []) [] ++ r2) (no_route (not (is_same_hop k j)))
         ∙ inner ∙ ap₂ (λ x y. x ++ y) f (up ∙ ap (λ x. x ++ r0) (ap₂ (λ c u. cond {A = List (List Bool × Option ℕ)} c ((u, j) ∷ []) []) (a_route (not (is_same_hop k j))) e1 ∙ one_stored (b ++ true ∷ []) j k))
-        ∙ sym (append_assoc (within (b ++ false ∷ []) (within ds t)) (within (b ++ true ∷ []) (one_route j k)) r0) ∙ ap (λ x. x ++ r0) (sym (within-halves b (within ds t) (one_route j k)))
+        ∙ sym (append_assoc (within (b ++ false ∷ []) (within ds t)) (within (b ++ true ∷ []) (lone_route j k)) r0) ∙ ap (λ x. x ++ r0) (sym (within-halves b (within ds t) (lone_route j k)))

@@ -6,7 +6,7 @@ use Rattle.std.proofs.lemmas.Bool.{cases_Bool, false_from_ne_true, true_from_ne_
 use Rattle.ipnet_blocks.specs.BitStrings.{begins}
 use Rattle.least_table.specs.BestHops.{Of, AreMerged, AreBest}
 use Rattle.least_table.specs.HopSets.{is_same_hop, holds, meets, extra_route}
-use Rattle.least_table.specs.InnerTrees.{LeastPlan, Leaf, Fork, Skip, AllHave, AreAbove, IsLeastPlan, OneOutside, beside, one_route, plan_best, plan_routes, with_best}
+use Rattle.least_table.specs.InnerTrees.{LeastPlan, Leaf, Fork, Skip, AllHave, AreAbove, IsLeastPlan, OneOutside, beside, lone_route, plan_best, plan_routes, with_best}
 use Rattle.least_table.specs.Tables.{IsLeastTable, half_of, inner_of, inside, within}
 use Rattle.least_table.proofs.Makes.{Makes, Best-stay, empty_law, fork_made, made_nearest, stay_made}
 use Rattle.least_table.proofs.Merges.{Best-fork}
@@ -18,7 +18,7 @@ use Rattle.least_table.proofs.Stores.{within-whole, within_within}
 Best-one : (w : ℕ) (h : List Bool → Option ℕ) (k : Option ℕ) → AllHave w h k → AreBest w h [] (Of (k ∷ [])) 0
 Best-one w h k same = Best-stay w h [] tt k same (replicate w false) (length-replicate w false) refl
 
-one_made : (w : ℕ) (h : List Bool → Option ℕ) (k : Option ℕ) → AllHave w h k → (s : Option ℕ) → Makes w h s [] (one_route k s) (0 + extra_route (holds (k ∷ []) s))
+one_made : (w : ℕ) (h : List Bool → Option ℕ) (k : Option ℕ) → AllHave w h k → (s : Option ℕ) → Makes w h s [] (lone_route k s) (0 + extra_route (holds (k ∷ []) s))
 one_made w h k same s = rw (one_holds k s) (stay_made w h [] tt k same (replicate w false) (length-replicate w false) refl s)
 
 -- ---- sets of hops that are merged
@@ -71,9 +71,9 @@ module _ (w : ℕ) (h : List Bool → Option ℕ) (k : Option ℕ) (below hops :
   beside_made : (b : Bool) (r : Option ℕ → List (List Bool × Option ℕ)) → ((s : Option ℕ) → Makes w (half_of b h) s [] (r s) (m + extra_route (holds below s))) → AllHave w (half_of (not b) h) k
       → (s : Option ℕ) → Makes (suc w) h s [] (with_best hops (λ i. beside b k i (r i)) s) (m + extra_route (holds below k) + extra_route (holds hops s))
   beside_made true r inner one s = subst (λ n. Makes (suc w) h s [] (with_best hops (λ i. beside true k i (r i)) s) (n + extra_route (holds hops s))) cost
-      (fork_made w h [] tt refl (Of (k ∷ [])) (Of below) (Of hops) 0 m merged (k, merged_has k below hops merged) (one_route k) r (one_made w (half_of false h) k one) inner s)
+      (fork_made w h [] tt refl (Of (k ∷ [])) (Of below) (Of hops) 0 m merged (k, merged_has k below hops merged) (lone_route k) r (one_made w (half_of false h) k one) inner s)
   beside_made false r inner one s = subst (λ n. Makes (suc w) h s [] (with_best hops (λ i. beside false k i (r i)) s) (n + extra_route (holds hops s))) other_cost
-      (fork_made w h [] tt refl (Of below) (Of (k ∷ [])) (Of hops) m 0 (merged_swap (k ∷ []) below hops merged) (k, merged_has k below hops merged) r (one_route k) inner (one_made w (half_of true h) k one) s)
+      (fork_made w h [] tt refl (Of below) (Of (k ∷ [])) (Of hops) m 0 (merged_swap (k ∷ []) below hops merged) (k, merged_has k below hops merged) r (lone_route k) inner (one_made w (half_of true h) k one) s)
 
 -- ---- several levels
 

@@ -7,7 +7,7 @@ use Rattle.std.proofs.lemmas.Bool.{cond_both}
 use Rattle.ipnet_blocks.specs.BitStrings.{bits_cmp}
 use Rattle.trie_core.proofs.Strings.{bits_cmp-under}
 use Rattle.least_table.specs.HopSets.{is_same_hop, holds, first_hop}
-use Rattle.least_table.specs.InnerTrees.{LeastPlan, Leaf, Fork, Skip, beside, one_route, plan_routes, with_best}
+use Rattle.least_table.specs.InnerTrees.{LeastPlan, Leaf, Fork, Skip, beside, lone_route, plan_routes, with_best}
 use Rattle.least_table.specs.Tables.{inside, own, within}
 use Rattle.least_table.specs.Wholes.{with_own}
 use Rattle.least_table.proofs.Split.{joined, own-joined}
@@ -52,12 +52,12 @@ cut_in_order r hops s h = cond_both (holds hops s) (r s) (([], first_hop hops) �
 joined_order : (l r : List (List Bool × Option ℕ)) → IsInOrder l → IsInOrder r → IsInOrder (joined l r) × (own (joined l r) ≡ None)
 joined_order l r h k = (IsInOrder-joined l r h k, own-joined l r)
 
-IsInOrder-one : (k s : Option ℕ) → IsInOrder (one_route k s)
+IsInOrder-one : (k s : Option ℕ) → IsInOrder (lone_route k s)
 IsInOrder-one k s = cond_both (is_same_hop s k) [] (([], k) ∷ []) IsInOrder (λ e. tt) (λ e. (tt, tt))
 
 beside_order : (b : Bool) (k s : Option ℕ) (t : List (List Bool × Option ℕ)) → IsInOrder t → IsInOrder (beside b k s t) × (own (beside b k s t) ≡ None)
-beside_order true k s t h = joined_order (one_route k s) t (IsInOrder-one k s) h
-beside_order false k s t h = joined_order t (one_route k s) h (IsInOrder-one k s)
+beside_order true k s t h = joined_order (lone_route k s) t (IsInOrder-one k s) h
+beside_order false k s t h = joined_order t (lone_route k s) h (IsInOrder-one k s)
 
 pub IsInOrder-routes : (t : LeastPlan) (s : Option ℕ) → IsInOrder (plan_routes t s)
 IsInOrder-routes (Leaf k) s = cut_in_order (λ i. []) (Some k ∷ []) s (λ i. (tt, refl))

@@ -39,13 +39,13 @@ IsLeastPlan w h (Fork hops l r) = (v : ℕ) × (w ≡ suc v) × AreMerged (Of (p
 IsLeastPlan w h (Skip k hops b ds t) = (v : ℕ) × (w ≡ suc (length ds + v)) × AreAbove k (plan_best t) ds hops × OneOutside w h (b ∷ ds) k × IsLeastPlan v (inner_of (b ∷ ds) h) t
 
 -- the routes of a block whose addresses have the hop k, if it inherits s
-abbrev pub one_route : Option ℕ → Option ℕ → List (List Bool × Option ℕ)
-one_route k s = cond (is_same_hop s k) [] (([], k) ∷ [])
+abbrev pub lone_route : Option ℕ → Option ℕ → List (List Bool × Option ℕ)
+lone_route k s = cond (is_same_hop s k) [] (([], k) ∷ [])
 
 -- the routes of one half of a block, while the addresses of the other half have the hop k, if both inherit s
 abbrev pub beside : Bool → Option ℕ → Option ℕ → List (List Bool × Option ℕ) → List (List Bool × Option ℕ)
-beside true k s t = inside false (one_route k s) ++ inside true t
-beside false k s t = inside false t ++ inside true (one_route k s)
+beside true k s t = inside false (lone_route k s) ++ inside true t
+beside false k s t = inside false t ++ inside true (lone_route k s)
 
 -- the routes of a block with these best hops if it inherits s, by those of its parts for each hop that they inherit
 abbrev pub with_best : List (Option ℕ) → (Option ℕ → List (List Bool × Option ℕ)) → Option ℕ → List (List Bool × Option ℕ)

@@ -1,4 +1,4 @@
--- The theorems about the fewest operations of a block, its best inherited hops, and least tables, as statements.
+-- The theorems about the fewest operations of a block, and about least tables, as statements.
 use Rattle.std.specs.Prelude.{◌≡◌, ◌≢◌, ℕ, ◌+◌, Bool, true, false, List, [], length, Option, Some, None, ◌≤◌, ◌↔◌, ◌⊎◌}
 use Rattle.ipnet_blocks.specs.Halves.{IsLesser}
 use Rattle.least_table.specs.Nearest.{IsLeastDistance, IsNearestTable, distance}

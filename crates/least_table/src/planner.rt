@@ -37,7 +37,7 @@ fn innermost(lowers: &mut Vec<Lower>, depth: u8) -> Option<Lower>
 }
 
 /// The plan of pieces, which are blocks with a hop each. They come in ascending order, and no block is inside another. The pieces
-/// aren't stored: a step of the plan takes eight bytes, and there are two to four steps for each piece.
+/// aren't stored: a step of the plan takes eight bytes, and there is about one step for each piece.
 #[derive(Drop)]
 pub struct Planner<P: Copy> {
     steps: Steps,

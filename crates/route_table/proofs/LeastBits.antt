@@ -20,7 +20,7 @@ use Rattle.route_choices.specs.Hops.{IsHop, hop_from}
 use Rattle.route_choices.specs.declared.hop.Hop.{Hop}
 use Rattle.route_choices.proofs.Kept.{In-map, map_In, map_append}
 use Rattle.route_laws.specs.Fewest.{GivesInside, IsFewest}
-use Rattle.route_table.specs.InnerLeast.{ArePieces, AreLeast, AreLeastOf, entries_of, items_of}
+use Rattle.route_table.specs.InnerLeast.{ArePieces, AreLeast, AreLeastOf, entries_of, least_items}
 use Rattle.route_table.specs.InnerFamilyTables.{block_at}
 use Rattle.route_laws.specs.LeastTables.{IsLeast, routes_for}
 use Rattle.route_laws.specs.Tables.{Route, IsTable, route_of}
@@ -75,12 +75,12 @@ module _ (f : Family) {K : Type 0} (bits_in : K → List Bool) (of_bits : List B
   block_is : (r : K × Option ℕ) → AtBlock r → block (net_in f (parts_in r.0)) ≡ block_at f (bits_in r.0)
   block_is r a = ap block a.1 ∙ of_network_at (block_at f (bits_in r.0))
 
-  In-routes : (xs : List (K × Option ℕ)) (q : Route) → In q (routes_for (items_of f parts_in xs)) → (r : K × Option ℕ) × In r xs × (q ≡ route_for r)
+  In-routes : (xs : List (K × Option ℕ)) (q : Route) → In q (routes_for (least_items f parts_in xs)) → (r : K × Option ℕ) × In r xs × (q ≡ route_for r)
   In-routes [] q i = absurd i
   In-routes (x ∷ xs) q (inl e) = (x, inl refl, e)
   In-routes (x ∷ xs) q (inr i) = let t = In-routes xs q i in (t.0, inr t.1, t.2)
 
-  entries_are : (xs : List (K × Option ℕ)) → ((r : K × Option ℕ) → In r xs → AtBlock r) → entries_of (routes_for (items_of f parts_in xs)) ≡ strings bits_in xs
+  entries_are : (xs : List (K × Option ℕ)) → ((r : K × Option ℕ) → In r xs → AtBlock r) → entries_of (routes_for (least_items f parts_in xs)) ≡ strings bits_in xs
   entries_are [] ok = refl
   entries_are (x ∷ xs) ok =
       let e : bit_string (block (net_in f (parts_in x.0))) ≡ bits_in x.0 = ap bit_string (block_is x (ok x (inl refl))) ∙ string_of_block f (bits_in x.0) in
@@ -96,7 +96,7 @@ module _ (f : Family) {K : Type 0} (bits_in : K → List Bool) (of_bits : List B
       let z : IsBefore (block_at f (bits_in r.0)) (block_at f (bits_in s.0)) = (order_of_strings (block_at f (bits_in r.0)) (block_at f (bits_in s.0)) p q refl).1 m in
       subst (λ (c : Block). IsBefore c (block (net_in f (parts_in s.0)))) (sym (block_is r a)) (subst (λ (c : Block). IsBefore (block_at f (bits_in r.0)) c) (sym (block_is s b)) z)
 
-  rises : (xs : List (K × Option ℕ)) → ((r : K × Option ℕ) → In r xs → AtBlock r) → Rising IsLess (strings bits_in xs) → Rising Sooner (routes_for (items_of f parts_in xs))
+  rises : (xs : List (K × Option ℕ)) → ((r : K × Option ℕ) → In r xs → AtBlock r) → Rising IsLess (strings bits_in xs) → Rising Sooner (routes_for (least_items f parts_in xs))
   rises [] ok up = tt
   rises (x ∷ xs) ok up = (
     (λ q i. let t = In-routes xs q i in
@@ -119,29 +119,29 @@ module _ (f : Family) {K : Type 0} (bits_in : K → List Bool) (of_bits : List B
         let l = lengths (width f) (strings bits_in table) (least'.gives).table (bits_in r.0, r.1) (map_In (λ (q : K × Option ℕ). (bits_in q.0, q.1)) table r i) in
         (l, network_of_key f bits_in of_bits parts_in parts_are r.0 (sound_at r i).1 l)
 
-    pub are_least : AreLeast f ps (items_of f parts_in table)
+    pub are_least : AreLeast f ps (least_items f parts_in table)
     are_least = record {
-      table = table_of (routes_for (items_of f parts_in table))
+      table = table_of (routes_for (least_items f parts_in table))
           (λ q i. let t = In-routes table q i in
           let r = t.0 in
           let okb : IsBlock (block (net_in f (parts_in r.0))) = subst IsBlock (sym (block_is r (ok r t.1))) (block_at_is_block f (bits_in r.0) (ok r t.1).0) in
           let okh : IsHop (hop_from r.1) = is_hop r.1 (sound_at r t.1).2 in
           subst (λ (v : Route). IsBlock v.block × IsHop v.hop) (sym t.2) (okb, okh))
           (rises table ok (Rising-from_pairs IsLess (strings bits_in table) ordered));
-      in_family = All-from_In (λ (u : IpNet × Hop). family u.0 ≡ f) (items_of f parts_in table) (λ u i. let t = item u i in subst (λ (v : IpNet × Hop). family v.0 ≡ f) (sym t.2) (net_family f (parts_in (t.0).0)));
-      truncated = All-from_In (λ (u : IpNet × Hop). IsTruncated (family u.0) (parts u.0)) (items_of f parts_in table) (λ u i. let t = item u i in
+      in_family = All-from_In (λ (u : IpNet × Hop). family u.0 ≡ f) (least_items f parts_in table) (λ u i. let t = item u i in subst (λ (v : IpNet × Hop). family v.0 ≡ f) (sym t.2) (net_family f (parts_in (t.0).0)));
+      truncated = All-from_In (λ (u : IpNet × Hop). IsTruncated (family u.0) (parts u.0)) (least_items f parts_in table) (λ u i. let t = item u i in
           subst (λ (v : IpNet × Hop). IsTruncated (family v.0) (parts v.0)) (sym t.2) (subst (λ (n : IpNet). IsTruncated (family n) (parts n)) (sym (ok t.0 t.1).1) (truncated_at (block_at f (bits_in (t.0).0)))));
       least = subst (λ (t : List (List Bool × Option ℕ)). bits.IsLeastTable (width f) (piece_hop ps) t) (sym (entries_are table ok)) least';
     }
       where
-        item : (u : IpNet × Hop) → In u (items_of f parts_in table) → (r : K × Option ℕ) × In r table × (u ≡ (net_in f (parts_in r.0), hop_from r.1))
+        item : (u : IpNet × Hop) → In u (least_items f parts_in table) → (r : K × Option ℕ) × In r table × (u ≡ (net_in f (parts_in r.0), hop_from r.1))
         item u i = In-map (λ (r : K × Option ℕ). (net_in f (parts_in r.0), hop_from r.1)) table u i
 
   -- for all pieces of which this is said
   pub results_are_least : (fits : K → Bool) (w : ℕ) → w ≡ width f → (Q : List (List Bool × ℕ) → Type 0) {E : Type 0} (result : Result (List (K × Option ℕ)) E)
       → IfOk result (λ table. All (λ r. IsTrue (fits r.0) × (r.0 ≡ of_bits (bits_in r.0)) × IfSome r.1 (λ n. n < 2 ^ 32)) table)
       → IfOk result (λ table. AllPairs (λ r s. bits_cmp r.0 s.0 ≡ Less) (strings bits_in table)) → IfOk result (λ table. (ps : List (List Bool × ℕ)) → Q ps → bits.IsLeastTable w (piece_hop ps) (strings bits_in table))
-      → IfOk result (λ table. (ps : List (List Bool × ℕ)) → Q ps → AreLeast f ps (items_of f parts_in table))
+      → IfOk result (λ table. (ps : List (List Bool × ℕ)) → Q ps → AreLeast f ps (least_items f parts_in table))
   results_are_least fits w wide Q (Ok table) networks ordered least = λ ps q. are_least fits w wide ps table networks ordered (least ps q)
   results_are_least fits w wide Q (Err e) networks ordered least = tt
 

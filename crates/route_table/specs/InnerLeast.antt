@@ -44,8 +44,8 @@ pub record ArePieces (f : Family) (h : Address → Option ℕ) (ps : List (List 
   pub same : (s : List Bool) → length s ≡ width f → piece_hop ps s ≡ hops_of f h s
 
 -- networks of one family as networks of either family, each with its hop
-abbrev pub items_of : Family → {P : Type 0} → (P → Network) → List (P × Option ℕ) → List (IpNet × Hop)
-items_of f parts_in table = map (λ r. (net_in f (parts_in r.0), hop_from r.1)) table
+abbrev pub least_items : Family → {P : Type 0} → (P → Network) → List (P × Option ℕ) → List (IpNet × Hop)
+least_items f parts_in table = map (λ r. (net_in f (parts_in r.0), hop_from r.1)) table
 
 -- routes of one family that are a least table with the hops of these pieces
 pub record AreLeast (f : Family) (ps : List (List Bool × ℕ)) (rs : List (IpNet × Hop)) : Type 0 where

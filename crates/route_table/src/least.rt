@@ -7,7 +7,7 @@ ghost use Rattle.ipnet.specs.IpNets.{family, parts};
 ghost use Rattle.least_table.specs.InnerPlanners.{HasPlanned};
 ghost use Rattle.prefix_trie.specs.declared.refused.Refused.TheVariants.{Memory};
 ghost use Rattle.route_choices.specs.Hops.{IsHop, hop_from};
-ghost use Rattle.route_table.specs.InnerLeast.{AreLeast, IsPlanned, items_of, pieces_of};
+ghost use Rattle.route_table.specs.InnerLeast.{AreLeast, IsPlanned, least_items, pieces_of};
 ghost use Rattle.route_laws.specs.Flats.{IsFlat};
 ghost use Rattle.route_laws.specs.LeastTables.{IsLeast, routes_for};
 ghost use Rattle.route_laws.specs.Networks.{routes_of};
@@ -48,17 +48,17 @@ impl Model for LeastRoutes {
     ghost use Rattle.ipnet_addr.specs.Addresses.{Ipv4, Ipv6};
     ghost use Rattle.ipnet.specs.declared.ip_net.IpNet.{IpNet};
     ghost use Rattle.route_choices.specs.declared.hop.Hop.{Hop};
-    ghost use Rattle.route_table.specs.InnerLeast.{items_of};
+    ghost use Rattle.route_table.specs.InnerLeast.{least_items};
 
     ghost Value = { List (IpNet × Hop) };
 
-    ghost view = { λ a. items_of Ipv4 (λ n. n) a.v4 ++ items_of Ipv6 (λ n. n) a.v6 };
+    ghost view = { λ a. least_items Ipv4 (λ n. n) a.v4 ++ least_items Ipv6 (λ n. n) a.v6 };
 }
 
 impl LeastRoutes {
     /// The routes of both families.
     fn new(v4: Routes<Ipv4Net>, v6: Routes<Ipv6Net>) -> LeastRoutes
-        ensures { result ≡ items_of Ipv4 (λ n. n) v4 ++ items_of Ipv6 (λ n. n) v6 }
+        ensures { result ≡ least_items Ipv4 (λ n. n) v4 ++ least_items Ipv6 (λ n. n) v6 }
     {
         LeastRoutes { v4, v6 }
     }
@@ -94,7 +94,7 @@ impl Iterator for LeastRoutes {
 /// The routes of a least table of one family with the hops of the planned pieces.
 fn fewest<P: FamilyNet>(plan: Planner<P>) -> Result<Routes<P>, AllocError>
     requires { (ps : List (List Bool × ℕ)) × HasPlanned P.R.width plan ps }
-    ensures { IfOk result (λ table. (ps : List (List Bool × ℕ)) → HasPlanned P.R.width plan ps → AreLeast P.family ps (items_of P.family P.parts table)) }
+    ensures { IfOk result (λ table. (ps : List (List Bool × ℕ)) → HasPlanned P.R.width plan ps → AreLeast P.family ps (least_items P.family P.parts table)) }
 {
     plan.into_routes()
 }
