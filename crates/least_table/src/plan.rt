@@ -41,8 +41,8 @@ enum Packed {
     HopOrNone(u8, u16, u32),
     /// The block is cut into halves. The hops of the set with this identifier are best.
     Set(u32),
-    /// One half, the upper half if the test is true, is the smaller block. The first hop of the set with this identifier is that of the
-    /// other half. The other hops of the set are best.
+    /// One half is the smaller block, the upper half if the first field is true. The first hop of the set with this identifier is that
+    /// of the other half. The other hops of the set are best.
     Beside(bool, u32),
 }
 
@@ -223,6 +223,9 @@ impl Steps {
     {
         if let (None, [None, Some(other)]) = (hop, hops) {
             return self.push(Packed::HopOrNone(1, u16::from(is_upper), *other));
+        }
+        if let [first, second] = hops {
+            return self.push_beside(is_upper, &[hop, *first, *second]);
         }
         let mut set = Vec::with_capacity(alloc, hops.len())?;
         set.push(hop)?;

@@ -71,13 +71,11 @@ impl SkippedBits {
 
     /// The path of the smaller block, given the path of the larger one.
     pub(crate) fn onward(&self, path: &Path) -> Path
-        requires { length path.now + length self.now ≤ 128 }
+        requires some { 0 < length self.now }
+        requires room { length path.now + length self.now ≤ 128 }
         ensures { result ≡ path.now ++ self.now }
     {
-        let mut longer = Path::new(path.to_bits(), path.len());
-        for level in 0..self.levels {
-            longer = longer.extended(self.turn(level));
-        }
-        longer
+        let len = path.len() + self.levels;
+        Path::new(path.to_bits() + (u128::from(self.bits) << (128 - len)), len)
     }
 }

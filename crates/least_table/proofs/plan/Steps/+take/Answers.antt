@@ -74,8 +74,13 @@ add_own-requires-in-Around g t c =
     let f = skip_of (g.P.R.Key.width - length c.args.path.now) c.args.self.now c.pop.new.self c.in-Some.step c.in-Some.ensures c.requires.plan.0 c.in-Around.turns c.in-Around.other c.requires.plan.1 c.requires.plan.2 (sym c.cut.ensures ∙ c.in-Around.is) in
     omega (arith, f.deep, half_length c.args.path.now c.extended-in-Around.result true c.extended-in-Around.ensures)
 
-pub onward-requires : goal.onward-requires
-onward-requires g t c =
+pub onward-requires-clause-some : goal.onward-requires-clause-some
+onward-requires-clause-some g t c =
+    let f = skip_of (g.P.R.Key.width - length c.args.path.now) c.args.self.now c.pop.new.self c.in-Some.step c.in-Some.ensures c.requires.plan.0 c.in-Around.turns c.in-Around.other c.requires.plan.1 c.requires.plan.2 (sym c.cut.ensures ∙ c.in-Around.is) in
+    omega (arith, ap length f.turns)
+
+pub onward-requires-clause-room : goal.onward-requires-clause-room
+onward-requires-clause-room g t c =
     let f = skip_of (g.P.R.Key.width - length c.args.path.now) c.args.self.now c.pop.new.self c.in-Some.step c.in-Some.ensures c.requires.plan.0 c.in-Around.turns c.in-Around.other c.requires.plan.1 c.requires.plan.2 (sym c.cut.ensures ∙ c.in-Around.is) in
     omega (arith, f.deep, ap length f.turns, c.requires.short, c.requires.inside)
 
