@@ -1,6 +1,9 @@
 //! The reply to one line, which a run or a caller has read.
-ghost use Rattle.std.specs.Prelude.{◌≡◌, ◌≢◌, [], ◌∷◌, IsErr, Some};
+ghost use Rattle.std.specs.Prelude.{◌≡◌, ◌≢◌, [], ◌∷◌, IsErr, IsTrue, Some};
 ghost use Rattle.ipnet.specs.IpNets.{block};
+ghost use Rattle.ipnet_blocks.specs.Maximal.{IsMaximal};
+ghost use Rattle.route_laws.specs.Networks.{routes_of};
+ghost use Rattle.route_laws.specs.Tables.{Governed};
 ghost use Rattle.route_program.specs.Counted.{CanCount};
 ghost use Rattle.route_feed.specs.InnerLines.{command_in};
 ghost use Rattle.route_feed.specs.InnerReplies.{TellsGoverned, replies_to_rest, reply_to_rest};
@@ -126,8 +129,8 @@ fn answer_add<W: Write>(
     requires { CanCount writer.old }
     ensures { Answers W.contents table.old table.new (Some (Command.Add net hop pref)) writer.old writer.new result }
 {
-    match table.add(net, hop, pref) {
-        Ok((before, after)) => tell_change(table, &net, before, after, writer),
+    match table.add_is_leaf(net, hop, pref) {
+        Ok((before, after, is_leaf)) => tell_change(table, &net, before, after, is_leaf, writer),
         Err(_) => close(writer, Closing::Refused),
     }
 }
@@ -142,7 +145,7 @@ fn answer_del<W: Write>(
     ensures { Answers W.contents table.old table.new (Some (Command.Del net hop)) writer.old writer.new result }
 {
     match table.del(&net, hop) {
-        Some((before, after)) => tell_change(table, &net, before, after, writer),
+        Some((before, after)) => tell_change(table, &net, before, after, false, writer),
         None => close(writer, Closing::Missing),
     }
 }
@@ -269,22 +272,24 @@ fn answer_count<W: Write>(table: &RouteTable, writer: &mut Counted<W>) -> Result
 }
 
 /// Replies to a change of the network with a line for each block whose hop changed: the blocks that the network governs, or none. If the
-/// network contains no other, this is one line, and no walk is needed.
+/// network contains no other, as it does if `is_leaf`, this is one line, and no walk is needed.
 fn tell_change<W: Write>(
     table: &RouteTable,
     net: &IpNet,
     before: Option<u32>,
     after: Option<u32>,
+    is_leaf: bool,
     writer: &mut Counted<W>,
 ) -> Result<(), RunError>
-    requires { CanCount writer.old }
+    requires count { CanCount writer.old }
+    requires leaf { IsTrue is_leaf → IsMaximal (Governed (routes_of table.now) (block net.now)) (block net.now ∷ []) }
     ensures same { before ≡ after → Closes W.contents 1 writer.old writer.new result (printed (Reply.Close Closing.Done ∷ [])) }
     ensures differs { before ≢ after → TellsGoverned W.contents table.now (block net.now) after writer.old writer.new result }
 {
     if before == after {
         return close(writer, Closing::Done);
     }
-    if table.is_leaf(net) {
+    if is_leaf || table.is_leaf(net) {
         return reply(writer, Some(change_line(net.trunc(), after)));
     }
     tell_governed(table, net, after, writer)

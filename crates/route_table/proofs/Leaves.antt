@@ -18,8 +18,9 @@ use Rattle.trie_core.specs.Nodes.{BitMap}
 use Rattle.trie_core.proofs.Leaves.{goes_on}
 use Rattle.route_choices.specs.Choices.{Choice}
 use Rattle.route_choices.proofs.Kept.{In-map}
+use Rattle.route_table.specs.Given.{IsNewLeaf}
 use Rattle.route_table.specs.InnerFamilyTables.{IsStored, block_at, stored_in, IsFamilyTable}
-use Rattle.route_laws.specs.Networks.{IsLeaf, Stored, best_route, routes_of}
+use Rattle.route_laws.specs.Networks.{IsLeaf, Stored, best_route, choices_at, routes_of}
 use Rattle.route_laws.specs.Tables.{Governed, Route}
 use Rattle.route_table.proofs.FamilyMap.{has_stored, in_side}
 use Rattle.route_table.proofs.FamilyTables.{side}
@@ -71,6 +72,10 @@ module _ (a b : List Stored) (sides : IsFamilyTable Ipv4 a × IsFamilyTable Ipv6
     λ f s c l. f s (Contains-from_In (side a b sides n.family) s (of_its_side n.family s (In-from_Contains (a ++ b) s c) (l.0 (first_of s.block) (has_first s.block)).0)) l,
     λ f s c l. f s (Contains-from_In (a ++ b) s (in_table n.family s (In-from_Contains (side a b sides n.family) s c))) l,
   )
+
+-- a new leaf of a side is a new leaf of the table
+pub new_leaf : (T U S V : List Stored) (n : Block) → choices_at T n ≡ choices_at S n → (IsLeaf V n ↔ IsLeaf U n) → {X : Type 0} → (X ↔ IsNewLeaf S V n) → X ↔ IsNewLeaf T U n
+new_leaf T U S V n old leaf is = (λ x. let new = is.0 x in (old ∙ new.0, leaf.0 new.1), λ new. is.1 (sym old ∙ new.0, leaf.1 new.1))
 
 -- ---- what a leaf governs
 

@@ -4,7 +4,7 @@ use Rattle.ipnet_addr.specs.Addresses.{Family, Ipv4, Ipv6}
 use Rattle.ipnet_blocks.specs.Blocks.{Block}
 use Rattle.route_laws.specs.Bounds.{lengths_in, pieces_in}
 use Rattle.route_laws.specs.Flats.{Piece, IsAdmissible, IsFlat}
-use Rattle.route_laws.specs.Networks.{Stored, IsStoredTable}
+use Rattle.route_laws.specs.Networks.{Stored, IsLeaf, IsStoredTable, choices_at}
 use Rattle.route_laws.specs.Tables.{Route, IsTable, hop_at}
 
 -- the result is a table without networks
@@ -12,6 +12,10 @@ pub record IsEmptied {E : Type 0} (result : Result (List Stored) E) : Type 0 whe
   pub networks : IfOk result (λ t. t ≡ [])
   pub table : IfOk result IsStoredTable
   pub ok : IsOk result
+
+-- the network isn't stored before, and contains no other network after
+abbrev pub IsNewLeaf : List Stored → List Stored → Block → Type 0
+IsNewLeaf before after n = (choices_at before n ≡ []) × IsLeaf after n
 
 -- these are the wanted routes of a table
 pub record AreRoutes (M wanted rs : List Route) : Type 0 where

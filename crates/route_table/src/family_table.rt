@@ -9,6 +9,7 @@ ghost use Rattle.route_choices.specs.Choices.{has_none, holds_hop, is_one_too_ma
 ghost use Rattle.route_choices.specs.Hops.{IsHop};
 ghost use Rattle.route_laws.specs.Onwards.{count_of, routes_after, routes_from};
 ghost use Rattle.route_laws.specs.Networks.{IsLeaf, choices_at, networks_outside, routes_of, with_choice, with_choices, without_choice, without_stored};
+ghost use Rattle.route_table.specs.Given.{IsNewLeaf};
 ghost use Rattle.route_table.specs.InnerFamilyTables.{IsFamilyTable};
 ghost use Rattle.route_table.specs.Refusals.{IsRefused};
 ghost use Rattle.route_table.specs.Tries.{map_of};
@@ -148,7 +149,7 @@ impl<P: FamilyNet> FamilyTable<P, 8> {
     }
 
     /// Adds a route to the network. If the network has this hop, its preference changes. Returns the numbers of the best hop at the
-    /// longest match before and after.
+    /// longest match before and after, and whether the network is new and none is inside it.
     ///
     /// # Errors
     /// The side is unchanged.
@@ -160,10 +161,11 @@ impl<P: FamilyNet> FamilyTable<P, 8> {
         net: P,
         hop: Hop,
         pref: u16,
-    ) -> Result<(Option<u32>, Option<u32>), AddRefused>
+    ) -> Result<(Option<u32>, Option<u32>, bool), AddRefused>
         requires { IsBlock (block_of P.family (P.parts net)) }
         ensures before { IfOk result (λ r. r.0 ≡ match_number (match_of (routes_of self.old) (block_of P.family (P.parts net)))) }
         ensures after { IfOk result (λ r. r.1 ≡ match_number (match_of (routes_of self.new) (block_of P.family (P.parts net)))) }
+        ensures leaf { IfOk result (λ r. IsTrue r.2 ↔ IsNewLeaf self.old self.new (block_of P.family (P.parts net))) }
         ensures networks { OnOk result (self.new ≡ with_choice self.old (block_of P.family (P.parts net)) (record { hop = hop; pref = pref })) }
         ensures room { OnOk result (is_one_too_many (choices_at self.old (block_of P.family (P.parts net))) hop ≡ false) }
         ensures side { IsFamilyTable P.family self.new }
@@ -173,10 +175,10 @@ impl<P: FamilyNet> FamilyTable<P, 8> {
         let (before, is_stored) = self.hop_at_match(net);
         if is_stored {
             let after = self.add_stored(net, hop, pref)?;
-            return Ok((before, after));
+            return Ok((before, after, false));
         }
         match self.store(net, hop, pref) {
-            Ok(_) => Ok((before, hop.number())),
+            Ok(is_leaf) => Ok((before, hop.number(), is_leaf)),
             Err(refused) => Err(AddRefused::Store(refused)),
         }
     }

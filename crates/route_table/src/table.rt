@@ -14,7 +14,7 @@ ghost use Rattle.route_table.specs.Tries.{map_of};
 ghost use Rattle.route_laws.specs.Networks.{IsLeaf, IsStoredTable, choices_at, routes_of, with_choice, with_choices, without_choice};
 ghost use Rattle.route_table.specs.Refusals.{IsRefused};
 ghost use Rattle.route_laws.specs.Tables.{Governed as GovernedBy, IsTable, match_number, match_of, routes_inside, item_of};
-ghost use Rattle.route_table.specs.Given.{AreRoutes, IsEmptied};
+ghost use Rattle.route_table.specs.Given.{AreRoutes, IsEmptied, IsNewLeaf};
 
 use crate::family_table::FamilyTable;
 use crate::governed::Governed;
@@ -109,6 +109,49 @@ impl RouteTable {
     ) -> Result<(Option<u32>, Option<u32>), AddRefused>
         // On success the results are the hops at the longest match of the network, before and after.
         ensures hops { IfOk result (λ r. (r.0 ≡ match_number (match_of (routes_of self.old) (block net))) × (r.1 ≡ match_number (match_of (routes_of self.new) (block net)))) }
+
+        // On success the network has the route among its others, best first; it had fewer than eight other hops.
+        ensures networks { OnOk result (self.new ≡ with_choice self.old (block net) (record { hop = hop; pref = pref })) }
+        ensures room { OnOk result (is_one_too_many (choices_at self.old (block net)) hop ≡ false) }
+
+        // Before and after, the stored networks ascend, each with its routes, best first.
+        ensures tables { IsStoredTable self.old × IsStoredTable self.new }
+
+        // A refusal changes nothing: the network has eight other hops, or isn't stored and memory ran out.
+        ensures refused { IfErr result (IsRefused (choices_at self.old (block net)) hop) }
+        ensures unchanged { OnErr result (self.new ≡ self.old) }
+    {
+        let (before, after, _) = self.add_is_leaf(net, hop, pref)?;
+        Ok((before, after))
+    }
+
+    /// Adds a route as `add` does, and also returns whether the network was not stored, and contains no other stored network. Then it
+    /// governs all its addresses.
+    ///
+    /// # Errors
+    /// Those of `add`.
+    ///
+    /// # Examples
+    /// With `wide`, 10.0.0.0/8, and its first half, in an empty table:
+    ///
+    /// ```rust
+    /// let added = table.add_is_leaf(half, Hop::Number(2), 100);
+    /// assert_eq!(rt; added, Ok((None, Some(2), true)));
+    /// let added = table.add_is_leaf(wide, Hop::Number(1), 100);
+    /// assert_eq!(rt; added, Ok((None, Some(1), false)));
+    /// ```
+    pub fn add_is_leaf(
+        &mut self,
+        net: IpNet,
+        hop: Hop,
+        pref: u16,
+    ) -> Result<(Option<u32>, Option<u32>, bool), AddRefused>
+        // On success the first two results are the hops at the longest match of the network, before and after.
+        ensures hops { IfOk result (λ r. (r.0 ≡ match_number (match_of (routes_of self.old) (block net))) × (r.1 ≡ match_number (match_of (routes_of self.new) (block net)))) }
+
+        // The third result says whether the network is new and contains no other. If so, it governs all its addresses.
+        ensures leaf { IfOk result (λ r. IsTrue r.2 ↔ IsNewLeaf self.old self.new (block net)) }
+        ensures governed { IfOk result (λ r. IsTrue r.2 → IsMaximal (GovernedBy (routes_of self.new) (block net)) (block net ∷ [])) }
 
         // On success the network has the route among its others, best first; it had fewer than eight other hops.
         ensures networks { OnOk result (self.new ≡ with_choice self.old (block net) (record { hop = hop; pref = pref })) }
@@ -241,10 +284,11 @@ impl RouteTable {
         net: IpNet,
         hop: Hop,
         pref: u16,
-    ) -> Result<(Option<u32>, Option<u32>), AddRefused>
+    ) -> Result<(Option<u32>, Option<u32>, bool), AddRefused>
         requires { IsBlock (block net) }
         ensures before { IfOk result (λ r. r.0 ≡ match_number (match_of (routes_of self.old) (block net))) }
         ensures after { IfOk result (λ r. r.1 ≡ match_number (match_of (routes_of self.new) (block net))) }
+        ensures leaf { IfOk result (λ r. IsTrue r.2 ↔ IsNewLeaf self.old self.new (block net)) }
         ensures networks { OnOk result (self.new ≡ with_choice self.old (block net) (record { hop = hop; pref = pref })) }
         ensures room { OnOk result (is_one_too_many (choices_at self.old (block net)) hop ≡ false) }
         ensures tables { IsStoredTable self.old × IsStoredTable self.new }

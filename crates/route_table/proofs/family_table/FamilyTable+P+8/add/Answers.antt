@@ -1,4 +1,4 @@
-use Rattle.std.proofs.Common.{◌∙◌, ◌∷◌, List, [], sym, ap}
+use Rattle.std.proofs.Common.{◌∙◌, ◌∷◌, List, [], true≢false, sym, ap}
 use Rattle.ipnet_blocks.specs.Networks.{block_of}
 use Rattle.route_choices.specs.Choices.{Choice, choices_with, is_one_too_many}
 use Rattle.route_choices.proofs.ChoiceLists.{one_is}
@@ -25,3 +25,11 @@ returns-in-Ok-clause-after g c =
     c.number.ensures.number
     ∙ number_of_choices c.args.self.now c.hop_at_match-before.ensures.side.table (block_of g.P.FamilyNet.family (g.P.FamilyNet.parts c.args.net)) c.requires cs (one_is (record { hop = c.args.hop; pref = c.args.pref }) c.number.ensures.in_range c.ranges.pref.fits) (λ e. cc)
     ∙ ap (λ T. match_number (match_of (routes_of T) (block_of g.P.FamilyNet.family (g.P.FamilyNet.parts c.args.net)))) (sym c.in-Ok.ensures.networks)
+
+pub returns-then-is_stored-clause-leaf : goal.returns-then-is_stored-clause-leaf
+returns-then-is_stored-clause-leaf g c = (λ t. absurd (true≢false (sym t)), λ new. absurd (some_there _ _ c.hop_at_match-before.ensures.stored c.if-is_stored.true new.0))
+
+pub returns-in-Ok-clause-leaf : goal.returns-in-Ok-clause-leaf
+returns-in-Ok-clause-leaf g c =
+    let none = none_there _ _ c.hop_at_match-before.ensures.stored c.if-is_stored.false in
+    (λ t. (none, c.in-Ok.ensures.leaf.0 t), λ new. c.in-Ok.ensures.leaf.1 new.1)

@@ -1,11 +1,15 @@
-use Rattle.std.proofs.Common.{◌∙◌, ◌++◌, List, sym, ap, subst}
+use Rattle.std.proofs.Common.{◌∙◌, ◌++◌, List, IsTrue, ◌↔◌, sym, ap, subst}
+use Rattle.std.specs.Prelude.{IfOk}
 use Rattle.ipnet_addr.specs.Addresses.{Ipv4, Ipv6}
 use Rattle.ipnet_blocks.specs.Networks.{block_of}
 use Rattle.ipnet.specs.IpNets.{block}
+use Rattle.ipnet.specs.declared.ip_net.IpNet.{IpNet}
 use Rattle.route_choices.specs.Choices.{Choice, is_one_too_many}
 use Rattle.route_laws.specs.Networks.{IsStoredTable, choices_at, routes_of, with_choice}
+use Rattle.route_table.specs.Given.{IsNewLeaf}
 use Rattle.route_table.specs.Refusals.{IsRefused}
 use Rattle.route_laws.specs.Tables.{match_of, match_number}
+use Rattle.route_table.proofs.Leaves.{leaf_side, new_leaf}
 use Rattle.route_table.proofs.Outcomes.{if_err, if_ok, on_ok}
 use Rattle.route_table.proofs.FamilyTables.{is_stored_table, choices_side, match_side, with_choice_side}
 use Rattle.route_table.proofs.table.RouteTable.add_choice.Goals as goal
@@ -45,3 +49,17 @@ returns-in-V6-clause-tables c = (subst IsStoredTable c.self.view_is (is_stored_t
 
 pub returns-in-V6-clause-refused : goal.returns-in-V6-clause-refused
 returns-in-V6-clause-refused c = if_err _ _ c.add-in-V6.result (λ e h. subst (λ (cs : List Choice). IsRefused cs c.args.hop e) (sym (choices_side _ _ c.self.invariant (block_of Ipv6 c.in-V6.net)) ∙ (λ i. choices_at (c.self.view_is i) (block (sym c.in-V6.is i)))) h) c.add-in-V6.ensures.refused
+
+pub returns-in-V4-clause-leaf : goal.returns-in-V4-clause-leaf
+returns-in-V4-clause-leaf c =
+    let n = block_of Ipv4 c.in-V4.net in
+    let old = sym (ap (λ T. choices_at T n) c.self.view_is) ∙ choices_side _ _ c.self.invariant n in
+    subst (λ (n : IpNet). IfOk c.add.result (λ r. IsTrue r.2 ↔ IsNewLeaf c.args.self.now (c.add.new.self ++ c.self.inside.v6) (block n))) (sym c.in-V4.is)
+    (if_ok _ _ c.add.result (λ r. new_leaf c.args.self.now (c.add.new.self ++ c.self.inside.v6) c.self.inside.v4 c.add.new.self n old (leaf_side _ _ (c.add.ensures.side, c.self.invariant.1) n)) c.add.ensures.leaf)
+
+pub returns-in-V6-clause-leaf : goal.returns-in-V6-clause-leaf
+returns-in-V6-clause-leaf c =
+    let n = block_of Ipv6 c.in-V6.net in
+    let old = sym (ap (λ T. choices_at T n) c.self.view_is) ∙ choices_side _ _ c.self.invariant n in
+    subst (λ (n : IpNet). IfOk c.add-in-V6.result (λ r. IsTrue r.2 ↔ IsNewLeaf c.args.self.now (c.self.inside.v4 ++ c.add-in-V6.new.self) (block n))) (sym c.in-V6.is)
+    (if_ok _ _ c.add-in-V6.result (λ r. new_leaf c.args.self.now (c.self.inside.v4 ++ c.add-in-V6.new.self) c.self.inside.v6 c.add-in-V6.new.self n old (leaf_side _ _ (c.self.invariant.0, c.add-in-V6.ensures.side) n)) c.add-in-V6.ensures.leaf)
