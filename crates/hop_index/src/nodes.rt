@@ -250,7 +250,6 @@ impl<N: Stored> Nodes<N> {
     ) -> Option<u32>
         requires tops { (ts : List ℕ) → option_copied tops ≡ Some ts → AreTops ts }
         requires ranges { ArePadded self.now.ranges (2 ^ N.width) }
-        requires few { length self.now.ranges < 1073741824 }
         ensures { IfSome result (λ e. (nodes : List StoredNode) (x : ℕ) → x < 2 ^ N.width → cell_by N.width (option_copied tops.entry) node.now x ≡ cell → EndsBelow self.now.ranges x place → Leads nodes self.now.ranges x e) }
     {
         if N::width() > 32 || place as usize >= self.ranges.len() {

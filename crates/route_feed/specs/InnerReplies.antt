@@ -31,6 +31,10 @@ own_line b = Own (network_at b)
 abbrev pub GivesLine : List Reply → Option Reply → List Reply → Type 0
 GivesLine lines line left = MatchOption line ((lines ≡ []) × (left ≡ [])) (λ l. (lines ≡ l ∷ left) × IsPrintable l)
 
+-- the network governs all its addresses
+abbrev pub GovernsAll : List Stored → Block → Type 0
+GovernsAll M b = IsMaximal (Governed (routes_of M) b) (b ∷ [])
+
 module _ {W : Type 0} (contents : W → Option (List ℕ)) where
   -- a line for each block that a network governs, with its new hop, and `ok` were written and flushed; or a beginning was written
   abbrev pub TellsGoverned : List Stored → Block → Option ℕ → Counted W → Counted W → Result Unit RunError → Type 0

@@ -1,12 +1,9 @@
 //! The reply to one line, which a run or a caller has read.
 ghost use Rattle.std.specs.Prelude.{◌≡◌, ◌≢◌, [], ◌∷◌, IsErr, IsTrue, Some};
 ghost use Rattle.ipnet.specs.IpNets.{block};
-ghost use Rattle.ipnet_blocks.specs.Maximal.{IsMaximal};
-ghost use Rattle.route_laws.specs.Networks.{routes_of};
-ghost use Rattle.route_laws.specs.Tables.{Governed};
 ghost use Rattle.route_program.specs.Counted.{CanCount};
 ghost use Rattle.route_feed.specs.InnerLines.{command_in};
-ghost use Rattle.route_feed.specs.InnerReplies.{TellsGoverned, replies_to_rest, reply_to_rest};
+ghost use Rattle.route_feed.specs.InnerReplies.{GovernsAll, TellsGoverned, replies_to_rest, reply_to_rest};
 ghost use Rattle.route_feed.specs.LeadsLine.{Answers};
 ghost use Rattle.route_feed.specs.Replies.{printed};
 ghost use Rattle.route_program.specs.Devices.{Closes};
@@ -282,7 +279,7 @@ fn tell_change<W: Write>(
     writer: &mut Counted<W>,
 ) -> Result<(), RunError>
     requires count { CanCount writer.old }
-    requires leaf { IsTrue is_leaf → IsMaximal (Governed (routes_of table.now) (block net.now)) (block net.now ∷ []) }
+    requires leaf { IsTrue is_leaf → GovernsAll table.now (block net.now) }
     ensures same { before ≡ after → Closes W.contents 1 writer.old writer.new result (printed (Reply.Close Closing.Done ∷ [])) }
     ensures differs { before ≢ after → TellsGoverned W.contents table.now (block net.now) after writer.old writer.new result }
 {

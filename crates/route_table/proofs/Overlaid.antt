@@ -1,7 +1,6 @@
 -- Changes as a table: the hops that they tell, as bit strings.
-use Rattle.std.proofs.Common.{◌≡◌, ◌⊎◌, ℕ, ⊎_elim, inl, inr, Bool, List, [], ◌∷◌, length, Option, None, refl, sym, ap, ◌∙◌, subst}
+use Rattle.std.proofs.Common.{◌≡◌, ℕ, inl, inr, Bool, List, [], ◌∷◌, length, Option, None, refl, sym, ap, ◌∙◌, subst}
 use Rattle.ipnet_addr.specs.Addresses.{Family, Address, IsAddress, width}
-use Rattle.ipnet_addr.proofs.Members.{In}
 use Rattle.ipnet_blocks.specs.Blocks.{HasAddress, bit_string, family_block, host}
 use Rattle.least_table.specs.Tables as bits
 use Rattle.nearest_table.specs.Told.{told_hop}
@@ -12,7 +11,7 @@ use Rattle.route_laws.specs.Painted.{hop_over, painted_all}
 use Rattle.route_laws.specs.Tables.{Route, IsTable, hop_at}
 use Rattle.route_laws.proofs.Families.{hop_is, in_family, part_hops}
 use Rattle.route_laws.proofs.Insides.{table_of}
-use Rattle.route_laws.proofs.Overwritten.{over_back, over_is_table, over_under, routes_placed}
+use Rattle.route_laws.proofs.Overwritten.{over_is_table, over_under}
 use Rattle.route_laws.proofs.Painted.{Changes, painted_all_hops}
 use Rattle.route_table.specs.InnerLeast.{address_at, hops_of}
 use Rattle.route_table.specs.InnerUpdates.{overwritten_all}
@@ -24,16 +23,6 @@ pub overlay_is_table : (rs C : List Route) → IsTable C → Changes rs → IsTa
 overlay_is_table [] C t c = t
 overlay_is_table (r ∷ rs) C t c = let k = c r (inl refl) in
     overlay_is_table rs (overwritten C r) (over_is_table C t r k.0 k.1) (λ s i. c s (inr i))
-
--- each route of the table of changes is a change
-pub overlay_back : (rs C : List Route) → IsTable C → Changes rs → (q : Route) → In q (overwritten_all C rs) → In q C ⊎ In q rs
-overlay_back [] C t c q i = inl i
-overlay_back (r ∷ rs) C t c q i =
-    let k = c r (inl refl) in
-    ⊎_elim
-    (λ j. ⊎_elim (λ e. inr (inl e)) (λ u. inl u.0) (over_back Route.block C (routes_placed C t) r k.0 q j))
-    (λ j. inr (inr j))
-    (overlay_back rs (overwritten C r) (over_is_table C t r k.0 k.1) (λ s i. c s (inr i)) q i)
 
 -- an address has the hop of the last change whose block contains it, or inherits its hop if there is none
 overlay_under : (rs C : List Route) → IsTable C → Changes rs → (s : Option ℕ) (x : Address) → IsAddress x

@@ -1,12 +1,10 @@
 use Rattle.std.proofs.Common.{◌∷◌, [], ◌∙◌, ap, subst, sym}
 use Rattle.ipnet.specs.IpNets.{block, network_at}
-use Rattle.ipnet_blocks.specs.Maximal.{IsMaximal}
-use Rattle.route_laws.specs.Networks.{routes_of}
-use Rattle.route_laws.specs.Tables.{Governed}
 use Rattle.route_lines.specs.declared.reply.Closing.TheVariants.{Done}
 use Rattle.route_lines.specs.declared.reply.Reply.{Reply}
 use Rattle.route_lines.specs.declared.reply.Reply.TheVariants.{Close}
 use Rattle.route_laws.proofs.NetworksAt.{of_network_at}
+use Rattle.route_feed.specs.InnerReplies.{GovernsAll}
 use Rattle.route_feed.specs.Replies.{printed}
 use Rattle.route_feed.specs.Steps.{change_line}
 use Rattle.route_program.specs.Devices.{Closes}
@@ -20,6 +18,8 @@ pub returns-then-is_leaf-clause-differs : goal.returns-then-is_leaf-clause-diffe
 returns-then-is_leaf-clause-differs g c = λ _.
     let cleared = ap block c.trunc.ensures.value ∙ of_network_at (block c.args.net.now) in
     let line = c.change_line.ensures.value (c.trunc.ensures.value ∙ sym (ap network_at cleared)) ∙ ap (change_line c.args.after) cleared in
-    let alone : IsMaximal (Governed (routes_of c.args.table.now) (block c.args.net.now)) (block c.args.net.now ∷ []) =
-    elim c.then-is_leaf.branch [ then-is_leaf-via-then-is_leaf w ↦ c.requires.leaf w.if-is_leaf.true | then-is_leaf-via-else-is_leaf+then-is_leaf-2 w ↦ w.is_leaf.ensures.governed w.if-is_leaf-2.true ] in
+    let alone : GovernsAll c.args.table.now (block c.args.net.now) = elim c.then-is_leaf.branch [
+      | then-is_leaf-via-then-is_leaf w ↦ c.requires.leaf w.if-is_leaf.true
+      | then-is_leaf-via-else-is_leaf+then-is_leaf-2 w ↦ w.is_leaf.ensures.governed w.if-is_leaf-2.true
+    ] in
     (block c.args.net.now ∷ [], alone, subst (λ (l : Reply). Closes g.W.Write.contents 1 c.args.writer.now c.reply.new.writer c.reply.result (printed (l ∷ Close Done ∷ []))) line c.reply.ensures)
