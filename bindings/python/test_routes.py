@@ -481,7 +481,7 @@ class Packages(unittest.TestCase):
         missing = str(TOP / "bindings")
         ran = subprocess.run([sys.executable, "-B", "-c", "import jolmidda"], cwd=TOP / "bindings/python", stderr=subprocess.PIPE, text=True,
                              env={**os.environ, "ROUTES_LIB": missing})
-        self.assertRegex(ran.stderr, f"\nImportError: {re.escape(missing)}/libroutes.so: .*ROUTES_LIB")
+        self.assertRegex(ran.stderr, f"\nOSError: {re.escape(missing)}/libroutes.so: .*ROUTES_LIB")
 
     def test_the_version(self):
         """It is the latest that CHANGELOG.md names."""

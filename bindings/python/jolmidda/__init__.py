@@ -425,7 +425,7 @@ def _load(kind: Type[ctypes.CDLL]) -> ctypes.CDLL:
     try:
         library = kind(os.path.join(folder, "libroutes.so") if folder else "libroutes.so.1")
     except OSError as error:
-        raise ImportError(f"{error} (the environment variable ROUTES_LIB names the folder of libroutes.so)") from None
+        raise OSError(f"{error} (the environment variable ROUTES_LIB names the folder of libroutes.so)") from None
     table, route, change, piece = POINTER(_Table), POINTER(_Route), POINTER(_Change), POINTER(_Piece)
     index, addrs4, addrs6, hops, size = POINTER(_Index), POINTER(c_uint32), POINTER(_Addr6), POINTER(c_uint64), POINTER(c_size_t)
     net4, net6 = (c_uint32, c_uint8), (c_uint64, c_uint64, c_uint8)
