@@ -217,7 +217,7 @@ uint32_t routes_index_hop4(routes_index *index, uint32_t addr, uint64_t *hop);
 uint32_t routes_index_hop6(routes_index *index, uint64_t high, uint64_t low, uint64_t *hop);
 
 /* Looks up the hops of many addresses: hops[i] is the hop of addrs[i], for each i below both `count` and `room`. The rest of
- * `hops` is unchanged. */
+ * `hops` is unchanged. Does not allocate. Returns ROUTES_OK or ROUTES_CLOSED. */
 uint32_t routes_index_hop4_many(routes_index *index, const uint32_t *addrs, size_t count, uint64_t *hops, size_t room);
 uint32_t routes_index_hop6_many(routes_index *index, const routes_addr6 *addrs, size_t count, uint64_t *hops, size_t room);
 

@@ -4,9 +4,12 @@ import copy
 import doctest
 import gc
 import ipaddress
+import os
 import pickle
 import random
 import re
+import subprocess
+import sys
 import time
 import unittest
 from concurrent.futures import ThreadPoolExecutor
@@ -346,7 +349,8 @@ class Rules(unittest.TestCase):
                 ("must be an iterable of addresses, not a single bytes", index.hops, bytes(4)),
                 (f"{network}, not int", table.add, 10, 1), (f"{network}, not NoneType", table.remove, None, 1),
                 (f"{network}, not bytes", table.inside, b"::/0"), (f"{network}, not tuple", table.page_from, ("::", 0), 1),
-                ("hop must be an int, not float", table.add, "::/0", 1.0), ("hop must be an int, not NoneType", table.remove, "::/0", None),
+                ("hop must be an int or 'drop', not float", table.add, "::/0", 1.0),
+                ("hop must be an int or 'drop', not NoneType", table.remove, "::/0", None),
                 ("hop must be an int, not str", table.own, "1"), ("preference must be an int, not str", table.add, "::/0", 1, "100"),
                 ("limit must be an int, not float", table.page_after, "::/0", 1.0),
                 (f"{line}, not NoneType", table.line, None), (f"{line}, not bytearray", follower.line, bytearray(b"ok")),
@@ -355,6 +359,20 @@ class Rules(unittest.TestCase):
             ]:
                 with self.subTest(message), self.assertRaisesRegex(TypeError, message):
                     call(*arguments)
+            self.assertEqual(table.count(), Count(0, 0))
+
+    def test_zones(self):
+        """Other networks may have the same link-local addresses, so they aren't looked up without their zone."""
+        scoped, message = "fe80::1%eth0", "zone, as 'fe80::1%eth0|does not appear"  # Python 3.8 reads no zone
+        with Table() as table, Follower() as follower, Index(table) as index:
+            for call, *arguments in [(table.get, scoped), (table.hops, ["::", scoped]), (index.hop, scoped), (follower.hop, scoped),
+                                     (table.add, f"{scoped}/64", 1), (table.cover, f"{scoped}/64"), (table.add, scoped, 1)]:
+                with self.subTest(call=call, arguments=arguments), self.assertRaisesRegex(ValueError, message):
+                    call(*arguments)
+            if hasattr(ipaddress.IPv6Address, "scope_id"):
+                for call, *arguments in [(table.get, ipaddress.ip_address(scoped)), (table.add, ipaddress.ip_network(scoped), 1)]:
+                    with self.subTest(call=call, arguments=arguments), self.assertRaisesRegex(ValueError, message):
+                        call(*arguments)
             self.assertEqual(table.count(), Count(0, 0))
 
     def test_other_integers(self):
@@ -428,7 +446,7 @@ class Rules(unittest.TestCase):
             with self.assertRaisesRegex(ValueError, "closed"):
                 index.share()
             for share in shares:
-                with self.assertRaisesRegex(RuntimeError, "thread"):
+                with self.assertRaisesRegex(RuntimeError, "belongs to another thread"):
                     share.hop("10.0.0.1")
 
     def test_the_last_share_is_closed_last(self):
@@ -442,7 +460,7 @@ class Rules(unittest.TestCase):
     def test_a_table_stays_on_its_thread(self):
         with Table() as table, Follower() as follower, Index(table) as index, ThreadPoolExecutor(1) as other:
             for call in (table.flat, table.close, follower.flat, follower.close, index.close, lambda: index.hop("::")):
-                with self.assertRaisesRegex(RuntimeError, "thread"):
+                with self.assertRaisesRegex(RuntimeError, "belongs to another thread"):
                     other.submit(call).result()
 
     def test_another_thread_may_be_the_last(self):
@@ -457,6 +475,13 @@ class Packages(unittest.TestCase):
     def test_the_former_name(self):
         for name in jolmidda.__all__:
             self.assertIs(getattr(routes, name), getattr(jolmidda, name))
+
+    def test_without_the_library(self):
+        """The message says where it is searched."""
+        missing = str(TOP / "bindings")
+        ran = subprocess.run([sys.executable, "-B", "-c", "import jolmidda"], cwd=TOP / "bindings/python", stderr=subprocess.PIPE, text=True,
+                             env={**os.environ, "ROUTES_LIB": missing})
+        self.assertRegex(ran.stderr, f"\nOSError: {re.escape(missing)}/libroutes.so: .*ROUTES_LIB")
 
     def test_the_version(self):
         """It is the latest that CHANGELOG.md names."""

@@ -135,7 +135,7 @@ class _Handle:
         """The handle, if this is its thread. An index that `share` made has none before its first call."""
         thread = threading.get_ident()
         if vars(self).setdefault("_thread", thread) != thread:
-            raise RuntimeError(f"this {type(self).__name__} stays on its thread")
+            raise RuntimeError(f"this {type(self).__name__} belongs to another thread")
         return self._raw
 
     def _call(self, name: str, addr: Address, *rest: object) -> bool:
@@ -422,7 +422,10 @@ class _Piece(ctypes.Structure):
 def _load(kind: Type[ctypes.CDLL]) -> ctypes.CDLL:
     """Loads the library, with the signatures of its header."""
     folder = os.environ.get("ROUTES_LIB")
-    library = kind(os.path.join(folder, "libroutes.so") if folder else "libroutes.so.1")
+    try:
+        library = kind(os.path.join(folder, "libroutes.so") if folder else "libroutes.so.1")
+    except OSError as error:
+        raise OSError(f"{error} (the environment variable ROUTES_LIB names the folder of libroutes.so)") from None
     table, route, change, piece = POINTER(_Table), POINTER(_Route), POINTER(_Change), POINTER(_Piece)
     index, addrs4, addrs6, hops, size = POINTER(_Index), POINTER(c_uint32), POINTER(_Addr6), POINTER(c_uint64), POINTER(c_size_t)
     net4, net6 = (c_uint32, c_uint8), (c_uint64, c_uint64, c_uint8)
@@ -526,20 +529,29 @@ def _packed(addr: Address | str | bytes) -> bytes:
 
 def _address(addr: Address | str | bytes) -> Address:
     """Returns the address. (`ip_address` would print an address object, and parse it again.)"""
-    if isinstance(addr, (ipaddress.IPv4Address, ipaddress.IPv6Address)):
-        return addr
     if isinstance(addr, (str, bytes)):
-        return ipaddress.ip_address(addr)
-    raise TypeError(f"an address must be a str, bytes or an ipaddress address, not {type(addr).__name__}")
+        addr = ipaddress.ip_address(addr)
+    elif not isinstance(addr, (ipaddress.IPv4Address, ipaddress.IPv6Address)):
+        raise TypeError(f"an address must be a str, bytes or an ipaddress address, not {type(addr).__name__}")
+    _has_no_zone("an address", addr, getattr(addr, "scope_id", None))
+    return addr
 
 
 def _network(net: Net | str) -> Net:
     """Returns the network, without host bits."""
-    if isinstance(net, (ipaddress.IPv4Network, ipaddress.IPv6Network)):
-        return net
     if isinstance(net, str):
+        _has_no_zone("a network", net, "%" in net)
         return ipaddress.ip_network(net, strict=False)
+    if isinstance(net, (ipaddress.IPv4Network, ipaddress.IPv6Network)):
+        _has_no_zone("a network", net, getattr(net.network_address, "scope_id", None))
+        return net
     raise TypeError(f"a network must be a str or an ipaddress network, not {type(net).__name__}")
+
+
+def _has_no_zone(name: str, value: object, zone: object) -> None:
+    """A table has no zones, such as the interface in `fe80::1%eth0`. Python 3.8 doesn't read them."""
+    if zone:
+        raise ValueError(f"{name} must have no zone, as {str(value)!r} has")
 
 
 def _line(line: str | bytes) -> bytes:
@@ -550,12 +562,12 @@ def _line(line: str | bytes) -> bytes:
     raise TypeError(f"a line must be a str or bytes, not {type(line).__name__}")
 
 
-def _whole(name: str, value: int, most: int) -> int:
-    """Returns the argument of this name, if it is an integer from 0 to `most`."""
+def _whole(name: str, value: int, most: int, kinds: str = "an int") -> int:
+    """Returns the argument of this name, if it is an integer from 0 to `most`. `kinds` says what else the caller takes."""
     try:
         number = operator.index(value)
     except TypeError:
-        raise TypeError(f"{name} must be an int, not {type(value).__name__}") from None
+        raise TypeError(f"{name} must be {kinds}, not {type(value).__name__}") from None
     if not 0 <= number <= most:
         raise ValueError(f"{name} must be from 0 to {most}, not {number}")
     return number
@@ -576,15 +588,16 @@ def _net(version: int, high: int, low: int, prefixlen: int) -> Net:
 
 
 def _raw_hop(hop: Hop) -> int:
+    kinds = f"an int or {DROP!r}"
     if not isinstance(hop, str):
-        return _number_of(hop)
+        return _number_of(hop, kinds)
     if hop != DROP:
-        raise ValueError(f"hop must be an int or {DROP!r}, not {hop!r}")
+        raise ValueError(f"hop must be {kinds}, not {hop!r}")
     return _DROP
 
 
-def _number_of(hop: int) -> int:
-    return _whole("hop", hop, (1 << 32) - 1)
+def _number_of(hop: int, kinds: str = "an int") -> int:
+    return _whole("hop", hop, (1 << 32) - 1, kinds)
 
 
 def _number(hop: int) -> int | None:

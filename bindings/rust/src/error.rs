@@ -34,7 +34,7 @@ pub struct ParseNetError;
 
 impl fmt::Display for ParseNetError {
     fn fmt(&self, f: &mut fmt::Formatter<'_>) -> fmt::Result {
-        f.write_str("this is no network, such as 10.0.0.0/8")
+        f.write_str("not a network of the form 10.0.0.0/8")
     }
 }
 

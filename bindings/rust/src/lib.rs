@@ -20,8 +20,8 @@
 //!
 //! # Linking
 //!
-//! The environment variable `ROUTES_LIB` names the folder of the library when the crate is
-//! built. If that folder has libroutes.a, the program is linked with it, and else with
+//! When the crate is built, the environment variable `ROUTES_LIB` gives the full path of the
+//! library's folder. If that folder has libroutes.a, the program is linked with it, and else with
 //! libroutes.so. Without the variable the linker searches its own path for libroutes.so.
 //!
 //! # Threads
