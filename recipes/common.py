@@ -72,7 +72,7 @@ def run(main):
         elif main(*sys.argv[1:]) is False:
             sys.exit(usage)
     except OSError as error:
-        fault(f"{error.filename}: {error.strerror}" if error.filename else error)
+        fault(f"{error.filename}: {error.strerror}" if error.filename else error.strerror or error)
 
 
 @contextlib.contextmanager
