@@ -2,6 +2,7 @@
 #define _GNU_SOURCE
 #include "fib_kernel.h"
 #include <arpa/inet.h>
+#include <fcntl.h>
 #include <getopt.h>
 #include <poll.h>
 #include <signal.h>
@@ -170,9 +171,19 @@ static uint32_t option(const char *word, uint32_t least, uint32_t most, const ch
     return number;
 }
 
+/* In place of a closed file the kernel would give its number to a socket. */
+static void need_open(int file, const char *name)
+{
+    if (fcntl(file, F_GETFD) < 0)
+        fault("%s: %m", name);
+}
+
 static void begin(const char *mode, const char *hops, uint32_t table, uint32_t protocol)
 {
     bool lists = !strcmp(mode, "list"), watches = !strcmp(mode, "watch");
+    need_open(1, "standard output");
+    if (!lists)
+        need_open(0, "standard input");
     uint32_t port = open_kernel(table, protocol);
     open_hops(hops);
     int signals = lists ? -1 : open_signals();

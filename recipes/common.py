@@ -35,11 +35,22 @@ CLOSING = ("ok", "none", "bad", "refused")
 PIECE = 1 << 20
 PASSED_OVER = 77
 
-sys.stdin.reconfigure(errors="backslashreplace")
+LONGEST = 200  # characters of a wrong line that are shown
 
 
 def fault(text):
     sys.exit(f"{NAME}: {text}")
+
+
+if sys.stdin is None:
+    fault("standard input is closed")
+sys.stdin.reconfigure(errors="backslashreplace")
+
+
+def line_shown(line):
+    """A line as a message shows it: on one line, without the bytes that drive a terminal, and not all of a long one."""
+    line = "".join(letter if letter.isprintable() or letter == "\t" else f"\\x{ord(letter):02x}" for letter in line[:LONGEST + 1])
+    return line if len(line) <= LONGEST else f"{line[:LONGEST]} .."
 
 
 def installed_usage(usage):
@@ -61,7 +72,7 @@ def run(main):
         elif main(*sys.argv[1:]) is False:
             sys.exit(usage)
     except OSError as error:
-        fault(f"{error.filename}: {error.strerror}" if error.filename else error)
+        fault(f"{error.filename}: {error.strerror}" if error.filename else error.strerror or error)
 
 
 @contextlib.contextmanager
@@ -79,8 +90,14 @@ def text(lines):
 
 def put(lines):
     """Writes all lines; to be called when no more faults are possible."""
+    put_bytes(text(lines).encode())
+
+
+def put_bytes(held):
+    if sys.stdout is None:
+        fault("standard output is closed")
     with naming("standard output"):
-        sys.stdout.write(text(lines))
+        sys.stdout.buffer.write(held)
         sys.stdout.flush()
 
 
@@ -251,7 +268,7 @@ def wrong_line(title, before, text, held):
         line, why = line.replace("\r", ""), "a carriage return, which `tr -d '\\r'` takes out"
     elif not end:
         why = "cut off, without a line end"
-    fault(f"line {before + text.count(chr(10), 0, start) + 1} of {title}: {why}: {line}")
+    fault(f"line {before + text.count(chr(10), 0, start) + 1} of {title}: {why}: {line_shown(line)}")
 
 
 def lines_of(path, title=None, form=ANY):
@@ -290,6 +307,12 @@ def locked(path):
                 yield
 
 
+def names_in(path):
+    """The names of a file of lines `NUMBER NAME`, which must be there."""
+    os.stat(path)
+    return Numbers(path).names()
+
+
 class Numbers:
     """A file of lines `NUMBER NAME` for all runs: a name keeps its number, and a new name gets the next number."""
 
@@ -298,7 +321,7 @@ class Numbers:
         for at, line in enumerate(lines_of(path) if os.path.exists(path) and os.path.getsize(path) else [], 1):
             number, _, name = line.rstrip("\n").partition(" ")
             if not is_number(number) or not name.strip() or name in self.of_name or number in seen:
-                fault(f"{path}, line {at}: not understood: {line.rstrip()}")
+                fault(f"{path}, line {at}: not understood: {line_shown(line.rstrip())}")
             self.of_name[name] = int(number)
             seen.add(number)
         self.last = max(self.of_name.values(), default=0)

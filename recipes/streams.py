@@ -10,7 +10,7 @@ import subprocess
 import sys
 import time
 
-from common import NETWORK, Numbers, fault, locked, naming, text
+from common import NETWORK, Numbers, fault, line_shown, locked, naming, text
 
 MOST, HIGHEST = 8, 65535
 TURN, QUIET = 0.25, 30  # seconds: one look at the stream; without a route, after which a dump is over
@@ -104,7 +104,7 @@ class Table:
                 if word == "add":
                     held[hop] = int(preference or 100)
             elif not CUT.fullmatch(line.rstrip("\n")):
-                fault(f"line {at} of {self.commands}: not a command of a recipe: {line.rstrip()}")
+                fault(f"line {at} of {self.commands}: not a command of a recipe: {line_shown(line.rstrip())}")
         if line and line[-1] != "\n":
             self.file.write("\n")
         return {network: held for network, held in found.items() if held}
@@ -162,11 +162,13 @@ class Table:
 
     def end(self):
         """The dump is over: routes that it did not have go."""
-        gone = [(network, source) for network, routes in self.routes.items() for source, route in routes.items() if route[2] < self.dump]
-        for network, source in gone:
+        old = [(network, source) for network, routes in self.routes.items() for source, route in routes.items() if route[2] < self.dump]
+        before = len(self.lines)
+        for network, source in old:
             self.take(network, source)
+        gone = sum(line.startswith("del ") for line in self.lines[before:])
         if gone or not self.is_whole:
-            say(f"the dump is over: {len(self.routes)} networks; {len(gone)} routes that were not in it are gone")
+            say(f"the dump is over: {len(self.routes)} networks; {gone} routes that were not in it are gone")
         self.is_dump, self.is_whole = False, True
 
     def flush(self):
