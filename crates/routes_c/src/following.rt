@@ -13,8 +13,8 @@ use std::alloc::Global;
 
 /// Reads a line of a leader's reply, given without its line end. A change is pending until its reply is closed, and `ok` commits it.
 ///
-/// Returns 0. Fails with 2 if an allocation for a change fails, 3 if the handle is closed, and 7 if the text isn't a reply line. After a
-/// failure with 2 or 7, which are faults, each later call fails with 8.
+/// Returns 0. Fails with 2 if an allocation for a change fails, 3 if the handle is closed, 7 if the text isn't a reply line, and 8 after a
+/// fault. Failures with 2 or 7 are faults. After one, lists that were made before can still be read.
 #[unsafe(no_mangle)]
 pub extern "C" fn routes_follower_line(follower: &mut Handle, line: &[u8]) -> u32
     requires { IsHandle follower.old }
