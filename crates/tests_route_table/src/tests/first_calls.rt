@@ -17,24 +17,6 @@ fn added(rt: &impl Abort, table: &mut RouteTable) {
     );
 }
 
-/// The inner of two networks is added first, so that the outer one is no leaf. A network that was stored counts as none.
-fn added_leaves(rt: &impl Abort, table: &mut RouteTable) {
-    let wide = net(rt, "10.0.0.0/8");
-    let half = net(rt, "10.0.0.0/9");
-    let added = table.add_is_leaf(half, Hop::Number(2), 100);
-    assert_eq!(rt; added, Ok((None, Some(2), true)));
-    let added = table.add_is_leaf(wide, Hop::Number(1), 100);
-    assert_eq!(rt; added, Ok((None, Some(1), false)));
-    let again = table.add_is_leaf(half, Hop::Number(3), 200);
-    assert_eq!(rt; again, Ok((Some(2), Some(3), false)));
-}
-
-#[test]
-fn leaves(rt: HostRuntime) {
-    let mut table = RouteTable::new(rt.alloc()).expect(&rt, "a table");
-    added_leaves(&rt, &mut table);
-}
-
 /// The longest match.
 fn found(rt: &impl Abort, table: &RouteTable) {
     let half = net(rt, "10.0.0.0/9");
@@ -156,6 +138,24 @@ fn two_routes(rt: HostRuntime) {
     indexed_at_once(&rt, &table);
     indexed_numbers(&rt, &table);
     taken_out(&rt, &mut table);
+}
+
+/// The inner of two networks is added first, so that the outer one is no leaf. A network that was stored counts as none.
+fn added_leaves(rt: &impl Abort, table: &mut RouteTable) {
+    let wide = net(rt, "10.0.0.0/8");
+    let half = net(rt, "10.0.0.0/9");
+    let added = table.add_is_leaf(half, Hop::Number(2), 100);
+    assert_eq!(rt; added, Ok((None, Some(2), true)));
+    let added = table.add_is_leaf(wide, Hop::Number(1), 100);
+    assert_eq!(rt; added, Ok((None, Some(1), false)));
+    let again = table.add_is_leaf(half, Hop::Number(3), 200);
+    assert_eq!(rt; again, Ok((Some(2), Some(3), false)));
+}
+
+#[test]
+fn leaves(rt: HostRuntime) {
+    let mut table = RouteTable::new(rt.alloc()).expect(&rt, "a table");
+    added_leaves(&rt, &mut table);
 }
 
 /// Two routes in the place of three.
