@@ -140,7 +140,7 @@ fn two_routes(rt: HostRuntime) {
     taken_out(&rt, &mut table);
 }
 
-/// The inner of two networks is added first, so that the outer one is no leaf. A network that was stored counts as none.
+/// The inner of two networks is added first, so that the outer one is no leaf.
 fn added_leaves(rt: &impl Abort, table: &mut RouteTable) {
     let wide = net(rt, "10.0.0.0/8");
     let half = net(rt, "10.0.0.0/9");
@@ -148,6 +148,11 @@ fn added_leaves(rt: &impl Abort, table: &mut RouteTable) {
     assert_eq!(rt; added, Ok((None, Some(2), true)));
     let added = table.add_is_leaf(wide, Hop::Number(1), 100);
     assert_eq!(rt; added, Ok((None, Some(1), false)));
+}
+
+/// A network that was stored isn't new.
+fn added_again(rt: &impl Abort, table: &mut RouteTable) {
+    let half = net(rt, "10.0.0.0/9");
     let again = table.add_is_leaf(half, Hop::Number(3), 200);
     assert_eq!(rt; again, Ok((Some(2), Some(3), false)));
 }
@@ -156,6 +161,7 @@ fn added_leaves(rt: &impl Abort, table: &mut RouteTable) {
 fn leaves(rt: HostRuntime) {
     let mut table = RouteTable::new(rt.alloc()).expect(&rt, "a table");
     added_leaves(&rt, &mut table);
+    added_again(&rt, &mut table);
 }
 
 /// Two routes in the place of three.
