@@ -1,5 +1,5 @@
 -- The choices of one block after one is put in or taken out.
-use Rattle.std.proofs.Common.{◌≡◌, ◌≢◌, suc, ◌<◌, ◌≤◌, ◌^◌, ◌⊎◌, inl, inr, ⊎_elim, Bool, true, false, not, ◌||◌, ◌==◌, List, [], ◌∷◌, Some, filter, length, Contains, ◌↔◌, refl, sym, ap, ◌∙◌, subst, arith}
+use Rattle.std.proofs.Common.{◌≡◌, ◌≢◌, suc, ◌<◌, ◌≤◌, ◌^◌, ◌⊎◌, inl, inr, ⊎_elim, Bool, true, false, cond, not, ◌||◌, ◌==◌, List, [], ◌∷◌, Some, filter, length, Contains, ◌↔◌, refl, sym, ap, ◌∙◌, subst, arith}
 use Rattle.std.proofs.lemmas.Bool.Decides.{nat_tests}
 use Rattle.std.proofs.lemmas.Bool.{or_right}
 use Rattle.ipnet_addr.proofs.Basics.{filtered_length}
@@ -104,6 +104,21 @@ any_or_none h cs = go (holds_hop cs h) refl
     go : (b : Bool) → holds_hop cs h ≡ b → ((d : Choice) × In d cs × (d.hop ≡ h)) ⊎ ((d : Choice) → In d cs → d.hop ≢ h)
     go true e = inl (any_in h cs e)
     go false e = inr (λ d i q. let t = in_any h cs d i q in cc)
+
+-- the choices of other hops are those after the first, if that has the hop
+pub without_first : (c : Choice) (cs : List Choice) (h : Hop) → AreChoices (c ∷ cs) → c.hop ≡ h → choices_without (c ∷ cs) h ≡ cs
+without_first c cs h are e =
+    ap (λ b. cond (not b) (c ∷ choices_without cs h) (choices_without cs h)) (test_from_hop c.hop h e)
+    ∙ all_kept (λ d. not (same_hop d.hop h)) cs (λ d i. test_from_apart d.hop h (λ q. (Rising-from_pairs Apart (c ∷ cs) are.once).0 d i (e ∙ sym q)))
+
+-- where no choice of another hop is left, there was one of this hop
+pub only_held : (cs : List Choice) (h : Hop) → (cs ≡ [] → ⊥) → choices_without cs h ≡ [] → holds_hop cs h ≡ true
+only_held [] h some none = absurd (some refl)
+only_held (c ∷ cs) h some none = go (same_hop c.hop h) refl
+  where
+    go : (b : Bool) → same_hop c.hop h ≡ b → holds_hop (c ∷ cs) h ≡ true
+    go true q = ap (λ b. b || holds_hop cs h) q
+    go false q = absurd (let e = ap (λ b. cond (not b) (c ∷ choices_without cs h) (choices_without cs h)) (sym q) ∙ none in cc)
 
 module _ (cs : List Choice) (ok : AreChoices cs) where
   rising : Rising Beats cs

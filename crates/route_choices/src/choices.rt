@@ -8,7 +8,7 @@ ghost use Rattle.route_choices.specs.Hops.{IsHop};
 ghost use Rattle.route_choices.specs.InnerSlots.{ends_at, ends_before};
 
 use crate::hop::Hop;
-use crate::slot::Slot;
+use crate::slot::{Slot, is_same};
 use crate::too_many::TooMany;
 use std::marker::Model;
 
@@ -185,6 +185,26 @@ impl<const CAPACITY: usize> Choices<CAPACITY> {
         ensures { result ≡ has_none self.now }
     {
         self.slots.first().is_none_or(|first| first.get().is_none())
+    }
+
+    /// Returns whether no other hop than this one is stored.
+    ///
+    /// # Examples
+    /// If the hop 5 alone is stored:
+    ///
+    /// ```rust
+    /// assert!(rt; choices.has_no_other(Hop::Number(5)));
+    /// assert!(rt; !choices.has_no_other(Hop::Drop));
+    /// ```
+    pub fn has_no_other(&self, hop: Hop) -> bool
+        ensures { result ≡ has_none (choices_without self.now hop) }
+    {
+        self.are_choices();
+        let mut all = self.all();
+        match all.next() {
+            None => true,
+            Some((first, _)) => is_same(first, hop) && all.next().is_none(),
+        }
     }
 
     /// Returns all choices, best first.

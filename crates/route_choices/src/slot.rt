@@ -55,7 +55,7 @@ impl Default for Slot {
 }
 
 /// Whether two hops are the same.
-fn is_same(a: Hop, b: Hop) -> bool
+pub(crate) fn is_same(a: Hop, b: Hop) -> bool
     ensures { result ≡ same_hop a b }
 {
     match (a, b) {

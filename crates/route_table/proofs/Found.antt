@@ -12,8 +12,11 @@ use Rattle.trie_core.specs.Search.{IsLongest, NoBeginning}
 use Rattle.route_choices.specs.Choices.{Choice, best_hop, has_none}
 use Rattle.route_choices.specs.Hops.{number_of}
 use Rattle.route_table.specs.InnerFamilyTables.{IsStored, block_at, stored_in}
-use Rattle.route_laws.specs.Networks.{Stored, choices_at, routes_of}
+use Rattle.route_laws.specs.Networks.{Stored, choices_at, routes_of, with_choices}
 use Rattle.route_laws.specs.Tables.{match_number, match_of}
+use Rattle.route_laws.proofs.ChoiceChanges.{number_of_choices}
+use Rattle.route_laws.proofs.Networks.{put_same}
+use Rattle.route_table.proofs.FamilyMap.{is_side}
 use Rattle.route_table.proofs.Searches.{match_at, no_match_at}
 use Rattle.route_table.proofs.Stores.{none_at, some_at}
 use Rattle.route_table.proofs.Strings.{block_at_is_block, string_of_block}
@@ -34,6 +37,13 @@ module _ (n : Block) (okn : IsBlock n) (m : BitMap (List Choice)) (ok : IsStored
 
   whole : take (length (bit_string n)) (bit_string n) ≡ bit_string n
   whole = take_all (length (bit_string n)) (bit_string n) (omega arith)
+
+  -- the hop of the network itself, which is stored
+  pub number_of_own : (cs : List Choice) → get m (bit_string n) ≡ Some cs → number_of (best_hop cs) ≡ match_number (match_of (routes_of networks) n)
+  number_of_own cs e =
+      let table = (is_side n.family m ok).table in
+      number_of_choices networks table n okn cs (ok.choices (bit_string n) cs e) (ok.some (bit_string n) cs e)
+      ∙ ap (λ T. match_number (match_of (routes_of T) n)) (ap (with_choices networks n) (sym (some_at n okn m ok cs e)) ∙ put_same networks table n okn)
 
   pub nothing_found : NoBeginning m (bit_string n) → (None ≡ match_number (match_of (routes_of networks) n)) × (false ≡ not (has_none (choices_at networks n)))
   nothing_found none = (sym (ap match_number (no_match_at n okn m ok none)), absent (ap (get m) (sym whole) ∙ none (length (bit_string n)) (omega arith)))

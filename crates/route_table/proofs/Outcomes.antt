@@ -1,5 +1,6 @@
 -- What holds of an answer holds of it in other words.
-use Rattle.std.proofs.Common.{Option, Some, None, Result, Ok, Err}
+use Rattle.std.proofs.Common.{◌≡◌, Bool, true, false, is_some, Option, Some, None, Result, Ok, Err, sym, ap, subst}
+use Rattle.std.specs.Bool.{then_some}
 use Rattle.std.specs.Prelude.{IfErr, IfOk, IfSome, OnErr, OnOk}
 
 pub if_ok : {T E : Type 0} (P Q : T → Type 0) (r : Result T E) → ((v : T) → P v → Q v) → IfOk r P → IfOk r Q
@@ -21,3 +22,12 @@ on_ok P Q (Err e) f h = h
 pub on_err : {T E : Type 0} (P Q : Type 0) (r : Result T E) → (P → Q) → OnErr r P → OnErr r Q
 on_err P Q (Ok v) f h = h
 on_err P Q (Err e) f h = f h
+
+-- an answer that is there if a test passed
+pub some_if : {T : Type 0} (b : Bool) (v : T) (o : Option T) → o ≡ then_some b v → is_some o ≡ b
+some_if true v o e = ap is_some e
+some_if false v o e = ap is_some e
+
+pub if_then_some : {T : Type 0} (P : T → Type 0) (b : Bool) (v : T) (o : Option T) → o ≡ then_some b v → P v → IfSome o P
+if_then_some P true v o e p = subst (λ z. IfSome z P) (sym e) p
+if_then_some P false v o e p = subst (λ z. IfSome z P) (sym e) tt

@@ -91,7 +91,10 @@ module _ (b : Block) (okb : IsBlock b) (m : BitMap (List Choice)) (ok : IsStored
         (put_back Stored.block side r s i))
 
   -- the key taken out
-  module _ (n : BitMap (List Choice)) (gone : (s : List Bool) → get n s ≡ cond (same s (bit_string b)) None (get m s)) where
+  module _ (n : BitMap (List Choice)) (e : n ≡ remove m (bit_string b)) where
+    gone : (s : List Bool) → get n s ≡ cond (same s (bit_string b)) None (get m s)
+    gone s = ap (λ x. get x s) e ∙ get-remove bits_total m (bit_string b) s
+
     pub taken_is_stored : IsStored b.family n
     taken_is_stored = changed_is_stored n None gone (λ cs q. absurd (cc))
 
@@ -121,11 +124,3 @@ module _ (b : Block) (okb : IsBlock b) (m : BitMap (List Choice)) (ok : IsStored
   pub put_choices : (n : BitMap (List Choice)) (cs : List Choice) → AreChoices cs → (cs ≡ [] → ⊥) → n ≡ insert m (bit_string b) cs → stored_in b.family n ≡ with_choices side b cs
   put_choices n [] are some e = absurd (some refl)
   put_choices n (c ∷ cs) are some e = put_side n (c ∷ cs) are some e
-
--- taken out after it was written
-pub gone_twice : (m n p : BitMap (List Choice)) (q : List Bool) (cs : List Choice) → n ≡ insert m q cs → p ≡ remove n q → (s : List Bool) → get p s ≡ cond (same s q) None (get m s)
-gone_twice m n p q cs e f s = ap (λ x. get x s) f ∙ get-remove bits_total n q s ∙ ap (cond (same s q) None) (ap (λ x. get x s) e ∙ get-insert bits_total m q cs s) ∙ go (same s q)
-  where
-    go : (t : Bool) → cond t None (cond t (Some cs) (get m s)) ≡ cond t None (get m s)
-    go true = refl
-    go false = refl

@@ -1,5 +1,6 @@
 -- Bit strings and the blocks that they name.
-use Rattle.std.proofs.Common.{◌≡◌, ◌-◌, ◌*◌, ◌^◌, ◌<◌, ◌≤◌, Bool, List, length, refl, sym, ap, ◌∙◌, subst}
+use Rattle.std.proofs.Common.{◌≡◌, ℕ, ◌-◌, ◌*◌, ◌^◌, ◌<◌, ◌≤◌, Bool, List, length, take, refl, sym, ap, ◌∙◌, arith, subst}
+use Rattle.std.proofs.lemmas.List.{take_all}
 use Rattle.std.proofs.Math.Nat.{mod-eq_of_lt}
 use Rattle.ipnet_addr.specs.Addresses.{Family, width}
 use Rattle.ipnet_blocks.specs.Blocks.{Block, IsBlock, digits, bit_string}
@@ -36,3 +37,7 @@ network_of_string f s h =
     let v = number_from n s in
     let e : number_from (width f) s ≡ v * 2 ^ (width f - n) = ap (number_from (width f)) (sym (own_digits s)) ∙ number-digits (width f) n v h ∙ ap (λ m. m * 2 ^ (width f - n)) (mod-eq_of_lt (number_bound n s)) in
     λ i. record { number = e i; len = n }
+
+-- as many bits as there are
+pub whole : (n : ℕ) (s t : List Bool) → n ≡ length s → s ≡ t → take n s ≡ t
+whole n s t l e = take_all n s (omega (arith, l)) ∙ e

@@ -5,7 +5,7 @@ ghost use Rattle.ipnet_blocks.specs.Blocks.{IsBlock, bit_string};
 ghost use Rattle.ipnet_blocks.specs.Networks.{block_of};
 ghost use Rattle.trie_core.specs.Count.{nodes, visit_count};
 ghost use Rattle.prefix_trie.specs.declared.refused.Refused.TheVariants.{Memory};
-ghost use Rattle.route_choices.specs.Choices.{has_none, holds_hop, is_one_too_many};
+ghost use Rattle.route_choices.specs.Choices.{choices_without, has_none, holds_hop, is_one_too_many};
 ghost use Rattle.route_choices.specs.Hops.{IsHop};
 ghost use Rattle.route_laws.specs.Onwards.{count_of, routes_after, routes_from};
 ghost use Rattle.route_laws.specs.Networks.{IsLeaf, choices_at, networks_outside, routes_of, with_choice, with_choices, without_choice, without_stored};
@@ -23,18 +23,6 @@ use prefix_trie::{PrefixMap, Refused};
 use route_choices::{All, Choices, Hop, TooMany};
 use std::alloc::{AllocError, Global};
 use std::marker::Model;
-
-/// The hop numbers before and after a change, if there was a change.
-fn change(
-    changed: bool,
-    before: Option<u32>,
-    after: Option<u32>,
-) -> Option<(Option<u32>, Option<u32>)>
-    ensures some { is_some result ≡ changed }
-    ensures hops { IfSome result (λ r. (r.0 ≡ before) × (r.1 ≡ after)) }
-{
-    if changed { Some((before, after)) } else { None }
-}
 
 /// Networks of one family with their routes, ascending, with room for `CAPACITY` routes of each.
 ///
@@ -212,19 +200,32 @@ impl<P: FamilyNet> FamilyTable<P, 8> {
         ensures networks { self.new ≡ without_choice self.old (block_of P.family (P.parts net)) hop }
         ensures side { IsFamilyTable P.family self.new }
     {
-        let (before, is_stored) = self.hop_at_match(net);
-        if !is_stored {
-            return None;
-        }
-        let (_, choices) = self.networks.match_mut(&net, net.prefix_len());
-        let held = choices.remove(hop);
-        if choices.is_empty() {
+        let choices = self.networks.get(&net)?;
+        let (best, _) = choices.best();
+        let before = best.number();
+        if choices.has_no_other(hop) {
             self.networks.remove(&net);
             let (after, _) = self.hop_at_match(net);
-            return change(held, before, after);
+            return Some((before, after));
         }
+        let after = self.remove_stored(net, hop)?;
+        Some((before, after))
+    }
+
+    /// Removes the route of this hop from a network that has a route of another hop. Returns the number of the network's best hop after
+    /// that, or `None` if there was no such route.
+    fn remove_stored(&mut self, net: P, hop: Hop) -> Option<Option<u32>>
+        requires block { IsBlock (block_of P.family (P.parts net)) }
+        requires others { choices_without (choices_at self.old (block_of P.family (P.parts net))) hop ≢ [] }
+        ensures held { is_some result ≡ holds_hop (choices_at self.old (block_of P.family (P.parts net))) hop }
+        ensures number { IfSome result (λ k. k ≡ match_number (match_of (routes_of self.new) (block_of P.family (P.parts net)))) }
+        ensures networks { self.new ≡ without_choice self.old (block_of P.family (P.parts net)) hop }
+        ensures side { IsFamilyTable P.family self.new }
+    {
+        let (_, choices) = self.networks.match_mut(&net, net.prefix_len());
+        let held = choices.remove(hop);
         let (best, _) = choices.best();
-        change(held, before, best.number())
+        held.then_some(best.number())
     }
 
     /// The routes of exactly this network, best first.
