@@ -1,6 +1,6 @@
 //! The fewest operations that give the addresses of a table new hops.
 ghost use Rattle.std.specs.Prelude.{◌≡◌, ◌≤◌, IfOk, None, length};
-ghost use Rattle.least_table.specs.InnerOrders.{IsInOrder};
+ghost use Rattle.least_table.specs.Orders.{IsInOrder};
 ghost use Rattle.least_table.specs.Tables.{IsBitTable};
 ghost use Rattle.nearest_table.specs.Changed.{AreInside};
 ghost use Rattle.least_table.specs.Nearest.{IsLeastDistance};
@@ -11,8 +11,8 @@ use nearest_table::tables::{Installed, Table};
 use std::alloc::{AllocError, Global};
 use trie_core::Path;
 
-/// The number of operations that the changes need: some table with the new hops differs from the installed one in so many blocks, and
-/// none in fewer.
+/// The number of operations that the changes need: some table with the new hops differs from the installed one in this number of
+/// blocks, and none in fewer.
 ///
 /// # Errors
 /// `AllocError` if an allocation fails.

@@ -11,7 +11,7 @@ use Rattle.least_table.specs.InnerTrees.{LeastPlan, Leaf, Fork, Skip, beside, lo
 use Rattle.least_table.specs.Tables.{inside, own, within}
 use Rattle.least_table.specs.Wholes.{with_own}
 use Rattle.least_table.proofs.Split.{joined, own-joined}
-use Rattle.least_table.specs.InnerOrders.{ComesBeforeAll, IsInOrder}
+use Rattle.least_table.specs.Orders.{ComesBeforeAll, IsInOrder}
 
 -- routes of a block, as routes of the whole, keep their order
 ComesBeforeAll-within : (ds x : List Bool) (t : List (List Bool × Option ℕ)) → ComesBeforeAll x t → ComesBeforeAll (ds ++ x) (within ds t)

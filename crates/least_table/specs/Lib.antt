@@ -8,7 +8,7 @@ pub mod Laws
 pub mod InnerHops
 pub mod InnerPieces
 pub mod InnerRising
-pub mod InnerOrders
+pub mod Orders
 pub mod InnerTrees
 pub mod InnerSteps
 pub mod InnerSets

@@ -1,6 +1,6 @@
 -- The tables that plans make are in order.
 use Rattle.std.proofs.Common.{◌≡◌, Bool, true, false, cond, List, [], ◌∷◌, ℕ, suc, Option, Some, None, refl, subst}
-use Rattle.least_table.specs.InnerOrders.{IsInOrder}
+use Rattle.least_table.specs.Orders.{IsInOrder}
 use Rattle.least_table.specs.BestHops.{Any, Of, first_best_hop, wants}
 use Rattle.least_table.specs.HopSets.{first_hop, holds}
 use Rattle.nearest_table.specs.Plans.{Tree, Stay, Fork, Held, tree_best, IsPlan, new_table}

@@ -4,7 +4,7 @@ use Rattle.std.proofs.lemmas.List.{nil_from_length}
 use Rattle.ipnet_blocks.specs.BitStrings.{begins}
 use Rattle.nearest_table.specs.Changed.{AreInside, MakeNearest}
 use Rattle.nearest_table.specs.Edits.{AreEdits, blocks}
-use Rattle.least_table.specs.InnerOrders.{IsInOrder}
+use Rattle.least_table.specs.Orders.{IsInOrder}
 use Rattle.nearest_table.specs.InnerPlans.{Fits, Plans, tree_of}
 use Rattle.least_table.specs.Nearest.{IsNearestTable, missing_routes, surplus_routes}
 use Rattle.nearest_table.specs.Plans.{Tree, Stay, Fork, Held, IsPlan, edits_of, new_table}

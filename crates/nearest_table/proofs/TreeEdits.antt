@@ -2,7 +2,7 @@
 use Rattle.std.proofs.Common.{◌≡◌, ℕ, suc, Bool, true, false, cond, not, List, [], ◌∷◌, ◌++◌, length, map, is_some, Option, Some, None, refl, sym, ap, ap₂, ◌∙◌, subst, arith}
 use Rattle.std.proofs.lemmas.List.Elements.{filter-append}
 use Rattle.nearest_table.specs.Edits.{AreEdits, blocks, installed_in, removed_in}
-use Rattle.least_table.specs.InnerOrders.{ComesBeforeAll, IsInOrder}
+use Rattle.least_table.specs.Orders.{ComesBeforeAll, IsInOrder}
 use Rattle.least_table.specs.HopSets.{is_same_hop, holds, first_hop}
 use Rattle.least_table.specs.BestHops.{Hops, Any, Of, wants, first_best_hop}
 use Rattle.nearest_table.specs.Laws.{EditsLaw}

@@ -1,7 +1,7 @@
 -- The edits that changes of a table need.
 use Rattle.std.specs.Prelude.{◌≡◌, ℕ, Bool, false, List, length, Option, None}
 use Rattle.ipnet_blocks.specs.BitStrings.{begins}
-use Rattle.least_table.specs.InnerOrders.{IsInOrder}
+use Rattle.least_table.specs.Orders.{IsInOrder}
 use Rattle.least_table.specs.Tables.{longest_route}
 use Rattle.nearest_table.specs.Edits.{AreEdits}
 use Rattle.least_table.specs.Nearest.{IsNearestTable}

@@ -1,7 +1,7 @@
 -- The theorems about nearest tables, as statements.
 use Rattle.std.specs.Prelude.{◌≡◌, ℕ, ◌+◌, Bool, false, List, length, Option}
 use Rattle.ipnet_blocks.specs.BitStrings.{begins}
-use Rattle.least_table.specs.InnerOrders.{IsInOrder}
+use Rattle.least_table.specs.Orders.{IsInOrder}
 use Rattle.least_table.specs.Nearest.{IsNearestTable}
 use Rattle.least_table.specs.Tables.{IsBitTable, hop_inheriting, inner_of}
 use Rattle.nearest_table.specs.Blocks.{inherited_hop, inner, put}

@@ -1,7 +1,7 @@
 //! Plans of blocks: the edits of the installed routes inside that give each address its new hop.
 ghost use Rattle.std.specs.Prelude.{◌≡◌, ◌-◌, ◌+◌, ◌≤◌, ◌++◌, ℕ, length, IfOk, IfSome, MatchOption, OnOk};
 ghost use Rattle.nearest_table.specs.Changed.{AreInside, MakeNearest};
-ghost use Rattle.least_table.specs.InnerOrders.{IsInOrder};
+ghost use Rattle.least_table.specs.Orders.{IsInOrder};
 ghost use Rattle.nearest_table.specs.InnerPlans.{Fits, HasMore, IsFork, IsTold, IsJoined, Plans, owned_tree, tree_of};
 ghost use Rattle.nearest_table.specs.Plans.{IsPlan, tree_best, edits_of};
 ghost use Rattle.least_table.specs.BestHops.{passed_on};

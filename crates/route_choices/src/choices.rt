@@ -180,13 +180,6 @@ impl<const CAPACITY: usize> Choices<CAPACITY> {
         self.all().best()
     }
 
-    /// Returns whether there are no choices.
-    pub fn is_empty(&self) -> bool
-        ensures { result ≡ has_none self.now }
-    {
-        self.slots.first().is_none_or(|first| first.get().is_none())
-    }
-
     /// Returns whether no other hop than this one is stored.
     ///
     /// # Examples

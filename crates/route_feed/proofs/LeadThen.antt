@@ -1,5 +1,5 @@
 -- What a leader writes, as a function of the bytes and of the refusals.
-use Rattle.std.proofs.Common.{◌≡◌, ℕ, suc, ◌+◌, ⊎_elim, Bool, true, false, List, [], ◌∷◌, ◌++◌, length, map, take, Option, IfSome, Result, Ok, Err, refl, sym, ap, ◌∙◌, subst, append_assoc, append-nil, arith}
+use Rattle.std.proofs.Common.{◌≡◌, ℕ, suc, ◌+◌, inl, inr, ⊎_elim, Bool, true, false, List, [], ◌∷◌, ◌++◌, length, map, take, Option, IfSome, Result, Ok, Err, refl, sym, ap, ◌∙◌, subst, append_assoc, append-nil, arith}
 use Rattle.std.specs.Result.{IsErr, OnOk}
 use Rattle.std.specs.Io.KnownBytes.{Appends}
 use Rattle.std.proofs.KnownBytes.{Appends-trans, Consumes-whole}
@@ -28,7 +28,7 @@ use Rattle.route_feed.specs.Replies.{printed}
 use Rattle.route_feed.specs.Steps.{step, may_refuse, answer_lines}
 use Rattle.route_program.specs.Devices.{Closed, Closes, Torn}
 use Rattle.route_feed.proofs.ReadNets.{commands_in}
-use Rattle.route_feed.proofs.Beginnings.{all_answered, commands_of, lines_answered}
+use Rattle.route_feed.proofs.Beginnings.{all_answered, lines_answered}
 use Rattle.route_program.proofs.Written.{Closed-nil, Closed-after}
 
 -- the refusals of one command
@@ -143,21 +143,21 @@ module _ {W : Type 0} (contents : W → Option (List ℕ)) where
       (λ p. absurd (cc (p.0)))
       t
 
-  -- the writer failed, whatever comes after the lines
-  stopped : (M N : List Stored) (ls : List Line) (more : List (Option Command)) (old new : Counted W) (e : RunError) → TakesAll Takes M ls old (Err e) N new
-      → (refusals : List Bool) × (e ≡ Why.Write) × Stopped contents M (map command_in ls ++ more) refusals old new
-  stopped M N [] more old new e t = absurd (cc (t.0))
-  stopped M N (l ∷ ls) more old new e t = ⊎_elim
+  -- the writer failed
+  stopped : (M N : List Stored) (ls : List Line) (old new : Counted W) (e : RunError) → TakesAll Takes M ls old (Err e) N new
+      → (refusals : List Bool) × (e ≡ Why.Write) × Stopped contents M (map command_in ls) refusals old new
+  stopped M N [] old new e t = absurd (cc (t.0))
+  stopped M N (l ∷ ls) old new e t = ⊎_elim
       (λ p.
       let a = p.2 in
-      let later = stopped p.0 N ls more p.1 new e p.3 in (
+      let later = stopped p.0 N ls p.1 new e p.3 in (
         refusals_of (may_refuse M (command_in l)) a.refused ++ later.0,
         later.1,
-        Stopped-later M (command_in l) a.refused (map command_in ls ++ more) old new p.1 later.0 a.reply (subst (λ T. Stopped contents T (map command_in ls ++ more) later.0 p.1 new) a.table later.2),
+        Stopped-later M (command_in l) a.refused (map command_in ls) old new p.1 later.0 a.reply (subst (λ T. Stopped contents T (map command_in ls) later.0 p.1 new) a.table later.2),
       ))
       (λ p.
       let a = p.1 in
-      (refusals_of (may_refuse M (command_in l)) a.refused ++ [], a.reply.0, Stopped-first M (command_in l) a.refused (map command_in ls ++ more) old new a.reply.1))
+      (refusals_of (may_refuse M (command_in l)) a.refused ++ [], a.reply.0, Stopped-first M (command_in l) a.refused (map command_in ls) old new a.reply.1))
       t
 
   -- or it failed in the reply to what stands after the last line end
@@ -192,10 +192,10 @@ module _ {R W : Type 0} (remaining : R → Option (List ℕ)) (contents : W → 
       (answered contents [] N (lines_in bytes) old new (subst (λ T. TakesAll (Takes contents) T (lines_in bytes) old (Ok tt) N new) none t))
 
   lines_stopped_in : (bytes : List ℕ) (new : Counted W) (e : RunError) → TakesAll (Takes contents) M (lines_in bytes) old (Err e) N new
-      → (refusals : List Bool) × (e ≡ Why.Write) × Stopped contents [] (commands_of bytes) refusals old new
+      → (refusals : List Bool) × (e ≡ Why.Write) × Stopped contents [] (whole_commands bytes) refusals old new
   lines_stopped_in bytes new e t =
-      subst (λ cs. (refusals : List Bool) × (e ≡ Why.Write) × Stopped contents [] (cs ++ at_end (rest bytes)) refusals old new) (commands_in bytes)
-      (stopped contents [] N (lines_in bytes) (at_end (rest bytes)) old new e (subst (λ T. TakesAll (Takes contents) T (lines_in bytes) old (Err e) N new) none t))
+      subst (λ cs. (refusals : List Bool) × (e ≡ Why.Write) × Stopped contents [] cs refusals old new) (commands_in bytes)
+      (stopped contents [] N (lines_in bytes) old new e (subst (λ T. TakesAll (Takes contents) T (lines_in bytes) old (Err e) N new) none t))
 
   -- a run that did not reach the end
   pub lead_stopped : (e : RunError) (new : Counted W) → Runs (Takes contents) remaining M from old (Err e) N to new → LeadEnds remaining contents from to old new (Err e)
@@ -206,7 +206,7 @@ module _ {R W : Type 0} (remaining : R → Option (List ℕ)) (contents : W → 
       (record { bytes = x.bytes; read = x.read; holds = (a.0, subst (λ n. Closed contents n old new (lines_output x.bytes a.0)) (sym (lines_answered x.bytes a.0)) a.1) }, p.2))
       (λ p.
       let a = lines_stopped_in x.bytes new e p.0 in
-      subst (λ k. LeadEnds remaining contents from to old new (Err k)) (sym a.1) (record { bytes = x.bytes; read = x.read; holds = (a.0, a.2) }, p.1))
+      subst (λ k. LeadEnds remaining contents from to old new (Err k)) (sym a.1) (inl (record { bytes = x.bytes; read = x.read; holds = (a.0, a.2) }, p.1)))
       x.ends
 
   module _ (left : Rest) (mid : Counted W) (x : Runs (Takes contents) remaining M from old (Ok left) N to mid) where
@@ -235,7 +235,7 @@ module _ {R W : Type 0} (remaining : R → Option (List ℕ)) (contents : W → 
             )
         go (Err e) q h =
             subst (λ k. LeadEnds remaining contents from to old new (Err k)) (sym q.0)
-            (record { bytes = x.bytes; read = x.read; holds = (replied.0, stopped_at_end contents x.bytes replied.0 old mid new (sym x.ends.1 ∙ h refl) replied.1 q.1) }, x.ends.3)
+            (inr (record { bytes = x.bytes; read = x.read; holds = (replied.0, stopped_at_end contents x.bytes replied.0 old mid new (sym x.ends.1 ∙ h refl) replied.1 q.1) }, x.ends.2, x.ends.3))
 
 -- where the reader tells its bytes
 pub lead_known : {R W : Type 0} (remaining : R → Option (List ℕ)) (contents : W → Option (List ℕ)) (from to : Counted R) (old new : Counted W) (r : Result Unit RunError) → LeadEnds remaining contents from to old new r

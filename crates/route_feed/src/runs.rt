@@ -31,8 +31,8 @@ use std::io::{Read, Write};
 /// # Errors
 /// - `Memory` before anything is read or written.
 /// - `Read` if `read` fails, or if 2^62 calls of `read` don't reach the end. The replies to all complete lines were written.
-/// - `Write` if `write` or `flush` fails, or if `write` writes nothing. Only a beginning of the output was written, and each reply before
-///   the last one in it was flushed.
+/// - `Write` if `write` or `flush` fails, or if `write` writes nothing. Only a beginning of the output for the bytes read was written, and
+///   each reply before the last one in it was flushed.
 ///
 /// It never fails with `Line`.
 ///

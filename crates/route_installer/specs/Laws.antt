@@ -86,7 +86,7 @@ abbrev pub InstalledTurnsOnce : Type 0
 InstalledTurnsOnce = (ns : List Noted) (n : Noted) → MayAllCome start (events begin (ns ++ n ∷ [])) → HasSync ns → (x : Address) → IsAddress x
     → TurnsOnce (installed_by ns) (operations_at ns n) x (painted_hop (committed (replies_of ns)) x) (painted_hop (committed (replies_of (ns ++ n ∷ []))) x)
 
--- ---- notes of a leader's replies, with other notes anywhere between them
+-- ---- notes of a leader's replies, with other notes between them
 
 -- after a `sync`, each address has the hop of the leader's table after as many commands as there are complete replies
 abbrev pub InstalledAgrees : Type 0

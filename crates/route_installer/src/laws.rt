@@ -4,7 +4,7 @@ ghost use Rattle.route_installer.specs.Laws.{BeginningsAreCarriedOut, Beginnings
 /// The table that is installed by an installer. It consists of the routes of the `have` lines, changed by all operations that were
 /// written.
 ///
-/// Take the replies of a leader, with `have` and `sync` lines anywhere between them, from the first `sync` on:
+/// Take the replies of a leader, with `have` lines anywhere before the first `sync`, and `sync` lines anywhere. From the first `sync` on:
 ///
 /// - `hops`: each address has the hop of the leader's table after as many commands as complete replies were read.
 /// - `times`: at each moment each address has its hop before the reply or its hop after the reply.
@@ -42,7 +42,8 @@ pub fn installed()
 /// - `hops`: after all its operations, each address has the hop of the leader's table after as many commands as complete replies were
 ///   read.
 /// - `times`: cut the output at any byte after its first `ok`. After the operations that are left, each address has the hop of the
-///   leader's table before or after one command. Before this command, as many batches were written as `ok` lines are left.
+///   leader's table after some number of commands, or after one more. The lines up to these commands give as many batches as `ok` lines
+///   are left.
 pub fn carried_out()
     ensures lines { OutputIsGiven }
     ensures read { OutputReadsBack }

@@ -11,7 +11,7 @@ use Rattle.ipnet_blocks.proofs.Maximals.{member_is_address}
 use Rattle.ipnet_blocks.proofs.Order.{order_of_strings}
 use Rattle.ipnet_blocks.proofs.Search.{whole_is_block, inside_whole}
 use Rattle.ipnet_blocks.proofs.Strings.{length-digits}
-use Rattle.least_table.specs.InnerOrders.{ComesBeforeAll, IsInOrder}
+use Rattle.least_table.specs.Orders.{ComesBeforeAll, IsInOrder}
 use Rattle.least_table.specs.Tables as bits
 use Rattle.trie_core.specs.Bits.{number_from}
 use Rattle.trie_core.proofs.Numbers.{number_bound, number-digits, one_power}

@@ -6,7 +6,7 @@ use Rattle.std.proofs.lemmas.List.Elements.{filter-append}
 use Rattle.ipnet_addr.specs.Addresses.{Family, Ipv4, Ipv6, Address, width}
 use Rattle.ipnet_addr.proofs.Ascending.{All-from_In, In-from_All}
 use Rattle.ipnet_blocks.specs.Blocks.{family_block, is_inside}
-use Rattle.least_table.specs.InnerOrders.{IsInOrder}
+use Rattle.least_table.specs.Orders.{IsInOrder}
 use Rattle.least_table.specs.Tables as bits
 use Rattle.nearest_table.specs.Changed.{MakeNearest}
 use Rattle.nearest_table.specs.Edits.{AreEdits, blocks, installed_in}

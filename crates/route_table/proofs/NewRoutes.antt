@@ -6,7 +6,7 @@ use Rattle.ipnet_addr.proofs.Basics.{list_any-from_In}
 use Rattle.ipnet_addr.proofs.Members.{In}
 use Rattle.ipnet_addr.proofs.Ascending.{In-from_All}
 use Rattle.ipnet_blocks.specs.Blocks.{Block, bit_string, family_block, is_inside}
-use Rattle.least_table.specs.InnerOrders.{IsInOrder}
+use Rattle.least_table.specs.Orders.{IsInOrder}
 use Rattle.least_table.specs.Tables as bits
 use Rattle.least_table.proofs.Sets.{same_hop-true}
 use Rattle.nearest_table.specs.Edits.{AreEdits, blocks, installed_in}

@@ -3,7 +3,7 @@ use Rattle.std.proofs.Common.{◌≡◌, ⊎_elim, Bool, List, [], ◌∷◌, Al
 use Rattle.ipnet_addr.specs.Addresses.{Ipv4, Ipv6, width}
 use Rattle.ipnet_addr.proofs.Ascending.{All-from_In, pairs_from_Rising}
 use Rattle.ipnet_blocks.specs.Blocks.{IsBlock}
-use Rattle.least_table.specs.InnerOrders.{IsInOrder}
+use Rattle.least_table.specs.Orders.{IsInOrder}
 use Rattle.least_table.specs.Tables as bits
 use Rattle.nearest_table.specs.Changed.{MakeNearest}
 use Rattle.nearest_table.proofs.Puts.{made_none}

@@ -31,8 +31,8 @@ use std::marker::Model;
 /// worst. The best route is the one in use.
 ///
 /// Contracts see a table as the ascending list of its stored networks, each with its routes, best first. Matches and hops are those of
-/// the best routes. Host bits of an argument are ignored everywhere. Only `own` and `least` allocate, and `add` and `overwrite` of a
-/// network that isn't stored. A table is `Send` and `Sync`.
+/// the best routes. Host bits of an argument are ignored everywhere. Only `own` and `least` allocate, and `add`,
+/// `add_is_leaf` and `overwrite` of a network that isn't stored. A table is `Send` and `Sync`.
 pub type RouteTable = Table<8>;
 
 /// A table of networks of both families with room for `CAPACITY` routes of each: `RouteTable` has eight, `HopTable` one.

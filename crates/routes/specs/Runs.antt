@@ -24,14 +24,14 @@ ModeEnds remaining contents Lead from to old new result = LeadEnds remaining con
 ModeEnds remaining contents Follow from to old new result = FollowEnds remaining contents from to old new result
 ModeEnds remaining contents Least from to old new result = ShortenEnds remaining contents from to old new result
 
--- where a run in this mode may lack memory: a leader before it reads; the others too at a line that may want it, and `least` once all is read
+-- at which points a run in this mode may lack memory: a leader before it reads; the others too at a line that may want it, and `least` once all is read
 abbrev pub MayLackMemory : {R : Type 0} → (R → Option (List ℕ)) → Mode → Counted R → Counted R → Type 0
 MayLackMemory remaining Lead from to = to ≡ from
 MayLackMemory remaining Follow from to = (to ≡ from) ⊎ HasRead remaining (λ bytes. MeetsWant (lines bytes)) from to
 MayLackMemory remaining Least from to =
     (to ≡ from) ⊎ HasRead remaining (λ bytes. MeetsWant (lines bytes)) from to ⊎ (HasRead remaining (λ bytes. AreReplies (lines bytes)) from to × IsAtEnd (remaining to.device))
 
--- where a run in this mode may meet a fault of its output: a leader at any reply, the others once all is read and each line is a reply line
+-- at which points a run in this mode may meet a fault of its output: a leader at any reply, the others once all is read and each line is a reply line
 abbrev pub MayFailToWrite : {R : Type 0} → (R → Option (List ℕ)) → Mode → Counted R → Counted R → Type 0
 MayFailToWrite remaining Lead from to = ⊤
 MayFailToWrite remaining Follow from to = HasReadAll remaining (λ bytes. AreReplies (lines bytes)) from to

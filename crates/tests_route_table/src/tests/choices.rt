@@ -31,6 +31,15 @@ fn best_first(rt: HostRuntime) {
 }
 
 #[test]
+fn the_only_hop(rt: HostRuntime) {
+    let mut choices: Choices<8> = Choices::one(Hop::Number(5), 100);
+    assert!(rt; choices.has_no_other(Hop::Number(5)));
+    assert!(rt; !choices.has_no_other(Hop::Drop));
+    assert_eq!(rt; choices.add(Hop::Drop, 200), Ok(()));
+    assert!(rt; !choices.has_no_other(Hop::Number(5)));
+}
+
+#[test]
 fn numbers_of_hops(rt: HostRuntime) {
     assert_eq!(rt; Hop::Number(7).number(), Some(7));
     assert_eq!(rt; Hop::Drop.number(), None);
