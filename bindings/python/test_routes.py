@@ -408,6 +408,17 @@ class Rules(unittest.TestCase):
             gc.collect()
             hook.assert_not_called()
 
+    def test_objects_that_are_made_again(self):
+        """The handle that they had is freed."""
+        with Table() as table, Follower() as follower, Index(table) as index:
+            table.add("::/0", 1)
+            for handle, arguments in ((index, [table]), (follower, []), (table, [])):
+                kind = type(handle)
+                with self.subTest(handle=handle), mock.patch.object(kind, "_close", autospec=True, side_effect=kind._close) as close:
+                    handle.__init__(*arguments)
+                    close.assert_called_once()
+            self.assertEqual((table.count(), follower.hop("::"), index.hop("::")), (Count(0, 0), None, 1))
+
     def test_host_bits_are_ignored(self):
         with Table() as table:
             table.add("10.1.2.3/8", 1)

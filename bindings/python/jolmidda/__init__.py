@@ -108,6 +108,8 @@ class _Handle:
     _thread: int
 
     def __init__(self) -> None:
+        if hasattr(self, "_raw"):  # __init__ ran before: free its handle
+            self.close()
         self._thread = threading.get_ident()
 
     def __enter__(self: _H) -> _H:
