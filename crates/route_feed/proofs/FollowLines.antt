@@ -91,7 +91,7 @@ module _ {W : Type 0} where
       (λ p. not_all p.0 b ls p.1 new p.3 (All-tail (λ m. IsSome (reply_in m)) l ls all))
       (λ p.
       let some : IsSome (reply_in l) = In-from_All (λ m. IsSome (reply_in m)) (l ∷ ls) all l (inl refl) in
-      let none : IsSome {T = Reply} None = subst IsSome p.1.0 some in
+      let none : IsSome {T = Reply} None = subst IsSome p.1.0.0 some in
       cc)
       t
 

@@ -1,7 +1,8 @@
 -- The state of a follower, and the effect of a reply line on it.
-use Rattle.std.specs.Prelude.{◌≡◌, ℕ, Bool, List, if◌then◌else◌, Option, Some, None, take}
+use Rattle.std.specs.Prelude.{◌≡◌, ◌≢◌, ℕ, Bool, List, if◌then◌else◌, Option, Some, None, take}
 use Rattle.ipnet_addr.specs.Addresses.{Address, IsAddress}
 use Rattle.route_lines.specs.declared.reply.Closing.{Closing}
+use Rattle.route_lines.specs.declared.reply.Closing.TheVariants.{Done}
 use Rattle.route_lines.specs.declared.reply.Reply.{Reply}
 use Rattle.route_laws.specs.Networks.{Stored, routes_of}
 use Rattle.route_laws.specs.Tables.{hop_at}
@@ -18,10 +19,11 @@ abbrev pub hop_after : State → Option Closing → Address → Option ℕ
 hop_after s (Some closing) x = if is_done closing then painted_over (hop_at (routes_of s.table) x) s.pending x else hop_at (routes_of s.table) x
 hop_after s None x = hop_at (routes_of s.table) x
 
--- the line was accepted
+-- the line was accepted: only `ok` changes the table
 pub record TakesLine (old new : State) (line : Reply) : Type 0 where
   pub hops : (x : Address) → IsAddress x → hop_at (routes_of new.table) x ≡ hop_after old (closes line) x
   pub pending : new.pending ≡ pending_after old.pending (closes line) (change_of line)
+  pub kept : closes line ≢ Some Done → new.table ≡ old.table
 
 -- each address has its hop after some first ones of these changes
 pub record HasFirst (old : List Stored) (changes : List Change) (new : List Stored) : Type 0 where

@@ -243,7 +243,7 @@ impl Follower {
     ///
     /// # Errors
     /// - `Failed` exactly after a fault; then nothing changes.
-    /// - `NotALine` exactly if the text isn't a reply line. The table and the pending changes stay.
+    /// - `NotALine` exactly if there was no fault before and the text isn't a reply line. The table and the pending changes stay.
     /// - `Memory` if an allocation fails: at a line with a change, or at an `ok` with pending changes. The pending changes stay. So does
     ///   the table at a line with a change; at `ok` the first few of the pending changes may be applied.
     ///
@@ -352,6 +352,7 @@ impl<W: Write> Sink<W> for Follower {
 
     fn take(&mut self, text: Option<&[u8]>, _writer: &mut Counted<W>) -> Result<(), RunError> {
         let Some(text) = text else {
+            self.failed = true;
             return Err(RunError::Line);
         };
         self.line(text)?;

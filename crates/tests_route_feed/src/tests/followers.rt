@@ -2,6 +2,7 @@
 use crate::tests::rows::{net, row_is};
 use ipnet::{IpAddr, IpNet};
 use route_feed::Follower;
+use route_program::{Counted, Sink};
 use route_table::Hop;
 use std::alloc::Global;
 use std::process::Abort;
@@ -111,6 +112,17 @@ fn one_change(rt: HostRuntime) -> Result<(), Fail> {
 fn has_one_route(rt: &impl Abort, follower: &Follower) -> Result<(), Fail> {
     let least = follower.least()?.expect(&rt, "no fault");
     assert_eq!(rt; least.len(), 1);
+    Ok(())
+}
+
+/// `None` stands for a line of more than 80 bytes.
+#[test]
+fn a_long_line_is_a_fault(rt: HostRuntime) -> Result<(), Fail> {
+    let mut follower = Follower::new(rt.alloc())?;
+    let mut writer = Counted::new(Vec::new(rt.alloc()));
+    let is_taken = follower.take(None, &mut writer).is_ok();
+    row_is(&rt, "taken", is_taken, false);
+    row_is(&rt, "failed", follower.failed(), true);
     Ok(())
 }
 
