@@ -21,9 +21,9 @@ use std::io::{Read, Write};
 /// Reads command lines until the end of the input, and writes the reply of each.
 ///
 /// Commands change or query a route table. The reply to any other line is `bad`, also to a line of more than 80 bytes, and to bytes after
-/// the last line end. The reply to an `add` or a `del` that is carried out is the fewest blocks that cover just the addresses whose hop
-/// changed, each with its new hop, and `ok`. The reply to a `del` of a route that isn't stored is `none`. The reply to an `add` of a ninth
-/// hop of a network is always `refused`, and so is that to a command that runs out of memory. Then nothing changes.
+/// the last line end. The reply to an `add` or a `del` that is carried out has the fewest blocks that cover just the addresses whose hop
+/// changed. Each block has its new hop, and `ok` is last. The reply to a `del` of a route that isn't stored is `none`. The reply to an
+/// `add` of a ninth hop of a network is always `refused`, and so is that to a command that runs out of memory. Then nothing changes.
 ///
 /// The output depends only on the bytes read and on which allocations failed, not on how the bytes were split into reads. If the reader's
 /// or the writer's type doesn't specify its bytes, as that of a file, the run does the same, but nothing is proved about these bytes. The

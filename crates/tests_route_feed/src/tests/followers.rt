@@ -115,7 +115,7 @@ fn has_one_route(rt: &impl Abort, follower: &Follower) -> Result<(), Fail> {
     Ok(())
 }
 
-/// `None` stands for a line of more than 80 bytes.
+/// `None` is a line of more than 80 bytes.
 #[test]
 fn a_long_line_is_a_fault(rt: HostRuntime) -> Result<(), Fail> {
     let mut follower = Follower::new(rt.alloc())?;
