@@ -36,9 +36,9 @@ pub enum Command {
 }
 
 impl Command {
-    /// Reads a command from the text of a line, without its line end. Words are separated by exactly one space, and there is no space
-    /// before or after them. Keywords are in lower case, and hops, preferences and other numbers have no leading zeros. Networks are read
-    /// as `IpNet` reads them, and their host bits are cleared. Does not allocate.
+    /// Reads a command from the text of a line, without its line end. Words are separated by exactly one space, and there is no
+    /// space before or after them. Keywords are in lower case, and hops, preferences and other numbers have no leading zeros.
+    /// Networks are read as `IpNet` reads them, and their host bits are cleared. Does not allocate.
     ///
     /// # Errors
     /// `NotALine` exactly if the text isn't a command.
