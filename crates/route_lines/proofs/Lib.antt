@@ -9,5 +9,6 @@ pub mod Updates
 pub mod Exits
 pub mod Printed
 pub mod PrintedCommands
+pub mod PrintedReplies
 pub mod Spells
 pub mod Earlier

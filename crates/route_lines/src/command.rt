@@ -7,7 +7,7 @@ use crate::phrase::{Limit, Number, Optional, read_after};
 use ipnet::IpNet;
 use route_table::{DEFAULT_PREFERENCE, Hop};
 
-/// A command: one line of the input. Its network has no host bits.
+/// A command: one line of the input. A command that was read has a network without host bits, or none.
 #[derive(Clone, Copy, PartialEq, Eq)]
 pub enum Command {
     /// `add NET HOP PREF`: adds a route to the hop, a number or `drop`, with this preference, 0 to 65535. In `add NET HOP` the
@@ -36,8 +36,9 @@ pub enum Command {
 }
 
 impl Command {
-    /// Reads a command from the text of a line, without its line end. Words are in lower case and separated by exactly one space. There is
-    /// no space before or after them, and decimal numbers have no leading zeros. Does not allocate.
+    /// Reads a command from the text of a line, without its line end. Words are separated by exactly one space, and there is no
+    /// space before or after them. Keywords are in lower case, and hops, preferences and other numbers have no leading zeros.
+    /// Networks are read as `IpNet` reads them, and their host bits are cleared. Does not allocate.
     ///
     /// # Errors
     /// `NotALine` exactly if the text isn't a command.

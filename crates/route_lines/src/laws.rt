@@ -11,7 +11,7 @@ ghost use Rattle.route_choices.specs.declared.hop.Hop.{Hop};
 ghost use Rattle.route_table.specs.Operations.{network_of};
 ghost use Rattle.route_table.specs.declared.between.Operation.{Operation};
 ghost use Rattle.route_lines.specs.Spelled.{command_of, note_of, reply_of, update_of};
-ghost use Rattle.route_lines.specs.Texts.{IsCommand, IsNote, IsPrintable, IsPrintableUpdate, IsReply, IsUpdate, update_for, update_text};
+ghost use Rattle.route_lines.specs.Texts.{IsCommand, IsNote, IsPrintable, IsPrintableUpdate, IsReply, IsUpdate, reply_text, update_for, update_text};
 ghost use Rattle.route_lines.specs.declared.command.Command.{Command};
 ghost use Rattle.route_lines.specs.declared.fib_input.FibInput.{FibInput};
 ghost use Rattle.route_lines.specs.declared.fib_input.FibInput.TheVariants as Notes;
@@ -60,6 +60,11 @@ pub fn replies()
     ensures grammar { IsGrammar IsReply 74 }
     ensures printable { (text : List ℕ) (a : Reply) → IsReply text a → IsPrintable a }
     ensures found { Finds IsReply reply_of }
+{}
+
+/// If a text spells a reply line, the printed text of this line spells it too, and spells no other.
+pub fn printed_replies()
+    ensures { IsTextOf IsReply reply_text }
 {}
 
 /// Each reply line of a leader without preferences is a reply line, with the same network and hop. A `route` line then has no

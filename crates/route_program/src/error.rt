@@ -7,10 +7,10 @@ use prefix_trie::Refused;
 use std::alloc::{AllocError, AllocFailed};
 use thiserror::Error;
 
-/// Why a run ended before it had processed all of its input.
+/// Why a run ended early.
 #[derive(Clone, Copy, Debug, PartialEq, Eq, Error)]
 pub enum RunError {
-    /// An allocation at the start failed.
+    /// An allocation failed: in a leader at the start, in other runs also at a line or at the end.
     #[error("no memory")]
     Memory,
     /// A `read` failed, or the most reads that a run makes didn't reach the end.

@@ -13,9 +13,9 @@ use std::io::Read;
 /// The most bytes that are kept for the next read.
 const KEPT: usize = 1 << 16;
 
-/// A reader that returns all lines of a piece but the last, and returns this last line, with the bytes after it, at the next read. If the
-/// kept bytes end a line, `more` is set, and the next read does not wait for the device. Errors of the device are passed on, and each
-/// call reads the device at most once.
+/// A reader that returns all lines of a piece but the last, and returns this last line, with the bytes after it, at the next read.
+/// If the kept bytes end a line, `more` is set. While bytes are kept, no call reads the device, so none waits for it. Errors of the
+/// device are passed on, and each call reads the device at most once.
 #[derive(Drop)]
 pub struct Input<'a, R> {
     device: Counted<R>,
@@ -25,9 +25,10 @@ pub struct Input<'a, R> {
 }
 
 impl<'a, R> Input<'a, R> {
-    /// Makes the input of a device; no bytes are kept yet.
+    /// Makes the input of a device; no bytes are kept, and nothing is counted yet.
     pub fn new(device: R, more: &'a Cell<bool>) -> Input<'a, R>
         ensures device { result.device.device ≡ device }
+        ensures counts { (result.device.reads ≡ 0) × (result.device.faults ≡ 0) }
         ensures kept { drop result.start result.kept.items ≡ [] }
     {
         Input {
@@ -73,6 +74,7 @@ impl<'a, R: Read> Read for Input<'a, R> {
         ensures bytes { ReadConsumes (prepend_known (drop self.old.start self.old.kept.items) (R.remaining self.old.device.device)) (prepend_known (drop self.new.start self.new.kept.items) (R.remaining self.new.device.device)) result buf.new }
         ensures reads { self.new.device.reads ≤ self.old.device.reads + 1 }
         ensures faults { self.new.device.faults ≡ more_if (is_err result) self.old.device.faults }
+        ensures kept { 0 < length (drop self.old.start self.old.kept.items) → self.new.device ≡ self.old.device }
     {
         let left = self.left();
         if left.is_empty() {

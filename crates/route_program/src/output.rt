@@ -22,9 +22,10 @@ pub struct Output<'a, W: Drop> {
 }
 
 impl<'a, W: Drop> Output<'a, W> {
-    /// Makes the output of a device.
+    /// Makes the output of a device; nothing is counted yet.
     pub fn new(device: W, more: &'a Cell<bool>) -> Output<'a, W>
-        ensures { result.device.device ≡ device }
+        ensures device { result.device.device ≡ device }
+        ensures counts { (result.device.reads ≡ 0) × (result.device.faults ≡ 0) }
     {
         Output {
             device: Counted::new(device),

@@ -107,7 +107,8 @@ fn take_piece<W: Write, S: Sink<W>>(
     Ok(())
 }
 
-/// Reads to the end, and passes each line to the sink. Returns whether there are bytes after the last line end.
+/// Reads to the end, and passes each line to the sink. Returns whether there are bytes after the last line end. `buf` must not be
+/// empty, and the reader's counts must be below 2^63.
 ///
 /// # Errors
 /// - `Read` if `read` fails, or if 2^62 calls of `read` don't reach the end. The sink has received each complete line that was read.
