@@ -1,9 +1,7 @@
 -- The table that an installer keeps installed, given the lines of a leader.
 use Rattle.std.specs.Prelude.{◌≡◌, ◌↔◌, ◌⊎◌, ◌<◌, ◌≤◌, ◌^◌, ℕ, Bool, All, IsSome, true, false, List, [], ◌∷◌, ◌++◌, Any, Option, Some, None, Contains, filter, length, map, not, suc, take}
 use Rattle.std.specs.List.{filter_map}
-use Rattle.ipnet.specs.declared.ip_net.IpNet.{IpNet}
 use Rattle.ipnet_addr.specs.Addresses.{Address, IsAddress}
-use Rattle.route_choices.specs.declared.hop.Hop.{Hop}
 use Rattle.route_choices.specs.Choices.{default_preference}
 use Rattle.ipnet.specs.IpNets.{block}
 use Rattle.route_lines.specs.Bytes.{lines, rest}
@@ -60,10 +58,6 @@ installed_by ns = after_all (haves (events begin ns)) (given start (events begin
 abbrev pub HasSync : List Noted → Type 0
 HasSync ns = Any (λ n. n.note ≡ Notes.Sync) ns
 
--- the note doesn't list a route as installed
-abbrev pub IsNoHave : FibInput → Type 0
-IsNoHave note = (net : IpNet) (hop : Hop) → note ≡ Notes.Have net hop → ⊥
-
 -- ---- notes and events
 
 -- The machine of notes refines that of events: from any state on, the tables after notes are those after the events of the notes.
@@ -113,10 +107,9 @@ LogsAreFirst = (bytes : List ℕ) (refusals : List Bool) (front back log : List 
 abbrev pub InstalledIsHitless : Type 0
 InstalledIsHitless = (ns : List Noted) (n : Noted) → MayAllCome start (events begin (ns ++ n ∷ [])) → IsHitless (installed_by ns) (operations_at ns n)
 
--- the operations at a note turn the table installed before it into the table installed after it
+-- the table that the operations lead to is the one that the installer keeps
 abbrev pub OperationsReach : Type 0
-OperationsReach = (ns : List Noted) (n : Noted) → MayAllCome start (events begin (ns ++ n ∷ [])) → IsNoHave n.note
-    → after_all (installed_by ns) (operations_at ns n) ≡ installed_by (ns ++ n ∷ [])
+OperationsReach = (ns : List Noted) → MayAllCome start (events begin ns) → installed_by ns ≡ (after_notes begin ns).tables.installed
 
 -- right after a `sync`, the installed table is a least table of the committed hops
 abbrev pub SyncsAreLeast : Type 0

@@ -14,7 +14,7 @@ ghost use Rattle.route_installer.specs.Laws.{BeginningsAreCarriedOut, Beginnings
 /// - `turns`: after a `sync`, each address turns at one moment of a line. Before this moment it has the hop that the replies before the
 ///   line commit, and from it on that of the replies with the line.
 /// - `hitless`: the operations of one line change the hop of each address at most once.
-/// - `reaches`: the operations of a line turn the table installed before it into the table installed after it.
+/// - `reaches`: the table that the operations lead to is the one that the installer keeps.
 /// - `fewest`: after a `sync`, the operations at an `ok` are the fewest of all that bring each address to its committed hop.
 /// - `least`: right after a `sync`, no table with the same hops has fewer routes.
 /// - `stays`: a later `sync` has no operations if that is so already.
