@@ -320,6 +320,7 @@ module _ {R W : Type 0} (remaining : R → Option (List ℕ)) (contents : W → 
             begun = f.torn.front;
             missing = f.torn.back;
             are_too = are_notes_too s.before s.piece s.notes n s.taken.spelled s.taken.fit is f.fit;
+            some = f.some;
             is_front = f.torn.is_front;
             gives = gives_then contents c s.before s.notes f.torn.front old s.mid new s.taken f.torn.appended f.torn.flushes;
           },
