@@ -151,13 +151,23 @@ carried_out M (U.Install net hop ∷ us) = carried_out (with_route M (route_of n
 carried_out M (U.Remove net ∷ us) = carried_out (without_block M (block net)) us
 carried_out M (U.Done ∷ us) = carried_out M us
 
--- the lines are those of the operations, and `ok`
+-- the lines that are written at these notes
+abbrev pub lines_given : List Noted → List FibUpdate
+lines_given ns = update_lines start (events begin ns)
+
+-- apart from `ok`, the lines are those of the operations
 abbrev pub OutputIsGiven : Type 0
-OutputIsGiven = (ns : List Noted) → filter is_operation (update_lines start (events begin ns)) ≡ map operation_line (given start (events begin ns))
+OutputIsGiven = (ns : List Noted) → filter is_operation (lines_given ns) ≡ map operation_line (given start (events begin ns))
+
+-- one more note gives nothing, or one more batch: the lines of its operations, and then one `ok`
+abbrev pub NotesGiveBatches : Type 0
+NotesGiveBatches = (ns : List Noted) (n : Noted) →
+    ((batches_given (ns ++ n ∷ []) ≡ batches_given ns) × (lines_given (ns ++ n ∷ []) ≡ lines_given ns))
+    ⊎ ((batches_given (ns ++ n ∷ []) ≡ suc (batches_given ns)) × (lines_given (ns ++ n ∷ []) ≡ lines_given ns ++ map operation_line (operations_at ns n) ++ U.Done ∷ []))
 
 -- the lines are read back as they were written
 abbrev pub OutputReadsBack : Type 0
-OutputReadsBack = (ns : List Noted) → MayAllCome start (events begin ns) → updates_in (installed_bytes ns) ≡ update_lines start (events begin ns)
+OutputReadsBack = (ns : List Noted) → MayAllCome start (events begin ns) → updates_in (installed_bytes ns) ≡ lines_given ns
 
 -- Carry out the complete lines of any beginning of the output, on the table of the routes that the notes list as installed. Each address
 -- then has its hop in this table after as many of the operations.
