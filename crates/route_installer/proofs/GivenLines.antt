@@ -10,7 +10,7 @@ use Rattle.route_choices.proofs.Kept.{filter_map_swap, map_append}
 use Rattle.route_lines.specs.declared.fib_update.FibUpdate.{FibUpdate}
 use Rattle.route_lines.specs.declared.fib_update.FibUpdate.TheVariants as U
 use Rattle.route_laws.specs.Operations.{Operation, Install, Remove, after_all, between}
-use Rattle.route_laws.specs.Runs.{Event, Have, Told, Sync, Installer, after_event, given, gives, start}
+use Rattle.route_laws.specs.Runs.{Event, Have, Told, Sync, Installer, after_event, after_events, given, gives, start}
 use Rattle.route_laws.specs.Tables.{Route, covering, hop_at, longer, longest, match_number, match_of, route_of, with_route, without_block}
 use Rattle.route_laws.proofs.NetworksAt.{of_network_at}
 use Rattle.route_installer.specs.Installing.{Noted, after_notes, batches, batches_given, begin, event_lines, event_of, events, operation_line, update_lines}
@@ -77,14 +77,15 @@ notes_give_batches ns n =
     let at = after_notes begin ns in
     let these = event_of at n.note n.table in
     let all : events begin (ns ++ n ∷ []) ≡ before ++ these = events-append begin ns (n ∷ []) ∙ ap (λ fs. before ++ fs) (append-nil these) in
-    let more : batches_given (ns ++ n ∷ []) ≡ batches_given ns + batches at.tables these =
-    ap (batches start) all ∙ batches-append start before these ∙ ap (λ t. batches start before + batches t these) (sym (tables_after begin ns)) in
-    let lines : lines_given (ns ++ n ∷ []) ≡ lines_given ns ++ update_lines at.tables these =
-    ap (update_lines start) all ∙ lines-append start before these ∙ ap (λ t. update_lines start before ++ update_lines t these) (sym (tables_after begin ns)) in
+    let more = ap (batches start) all ∙ batches-append start before these in
+    let lines = ap (update_lines start) all ∙ lines-append start before these in
     ⊎_elim
     (λ none. inl ((let same : batches_given (ns ++ n ∷ []) ≡ batches_given ns = omega (arith, more, none.0) in same), lines ∙ ap (λ us. lines_given ns ++ us) none.1 ∙ append-nil (lines_given ns)))
-    (λ one. inr ((let next : batches_given (ns ++ n ∷ []) ≡ suc (batches_given ns) = omega (arith, more, one.0) in next), lines ∙ ap (λ us. lines_given ns ++ us) one.1))
-    (none_or_batch at.tables these (one_event at n.note n.table))
+    (λ one. inr (
+      (let next : batches_given (ns ++ n ∷ []) ≡ suc (batches_given ns) = omega (arith, more, one.0) in next),
+      lines ∙ ap (λ us. lines_given ns ++ us) one.1 ∙ ap (λ T. lines_given ns ++ map operation_line (given T these) ++ U.Done ∷ []) (sym (tables_after begin ns)),
+    ))
+    (none_or_batch (after_events start before) these (one_event at n.note n.table))
 
 -- ---- lines carried out
 

@@ -144,7 +144,8 @@ next_reached ns n may kept =
     let as_before : haves (before ++ these) ≡ haves before = haves-append before these [] ∙ no_haves these (after_events start before) (haves before) kept (may_split start before these (may_now ns [] n may)).1 in
     ap (λ T. after_all (installed_by ns) (given T these)) (tables_after begin ns)
     ∙ sym (after-append (haves before) (given start before) (given (after_events start before) these))
-    ∙ sym (λ i. after_all (as_before i) (given-append start before these i))
+    ∙ ap (after_all (haves before)) (sym (given-append start before these))
+    ∙ ap (λ M. after_all M (given start (before ++ these))) (sym as_before)
     ∙ ap (λ fs. after_all (haves fs) (given start fs)) (sym (whole ns [] n ∙ append-nil (before ++ these)))
 
 -- ---- a beginning of the notes
