@@ -6,8 +6,8 @@ use Rattle.ipnet_addr.proofs.Members.{In, In-cases}
 use Rattle.route_lines.specs.declared.fib_update.FibUpdate.{FibUpdate}
 use Rattle.route_lines.specs.declared.fib_update.FibUpdate.TheVariants as U
 use Rattle.route_laws.specs.Operations.{Operation, Install, Remove}
-use Rattle.route_laws.specs.Runs.{Event, Have, Told, Sync, Installer, MayAllCome, after_event, after_events, gives, with_haves}
-use Rattle.route_laws.specs.Tables.{Route, with_route}
+use Rattle.route_laws.specs.Runs.{Event, Have, Told, Sync, Installer, after_event, after_events, gives}
+use Rattle.route_laws.specs.Tables.{Route}
 use Rattle.route_installer.specs.Installing.{Installing, Noted, after_note, after_notes, batches, event_lines, event_of, events, operation_line, update_lines}
 use Rattle.route_installer.specs.Laws.{is_operation, oks}
 use Rattle.route_installer.proofs.KeptTable.{one_event}
@@ -42,19 +42,6 @@ ok_keeps (e ∷ es) s i = ⊎_elim (λ j. kept_stays es (after_event s e) (go (I
     go : (b : Bool) → In U.Done (cond b (map operation_line (gives s e) ++ U.Done ∷ []) []) → b ≡ true
     go true j = refl
     go false j = absurd j
-
--- once the table is kept no route is told as installed
-pub no_haves : (es : List Event) (s : Installer) (M : List Route) → s.kept ≡ true → MayAllCome s es → with_haves M es ≡ M
-no_haves [] s M k m = refl
-no_haves (Have r ∷ es) s M k m = let both = sym m.0.0 ∙ k in absurd (cc)
-no_haves (Told rs N ∷ es) s M k m = no_haves es (after_event s (Told rs N)) M k m.1
-no_haves (Sync N ∷ es) s M k m = no_haves es (after_event s (Sync N)) M refl m.1
-
-pub haves-append : (es fs : List Event) (M : List Route) → with_haves M (es ++ fs) ≡ with_haves (with_haves M es) fs
-haves-append [] fs M = refl
-haves-append (Have r ∷ es) fs M = haves-append es fs (with_route M r)
-haves-append (Told rs N ∷ es) fs M = haves-append es fs M
-haves-append (Sync N ∷ es) fs M = haves-append es fs M
 
 -- ---- where it ends
 

@@ -20,11 +20,11 @@ use Rattle.route_installer.specs.Installing.{Installing, Noted, after_notes, beg
 use Rattle.route_installer.specs.Laws.{AreFirst, CutsAgree, carried_out, installed_by, is_operation, oks, operations_at, replies_of, reply_of_note, table_at, updates_in}
 use Rattle.route_feed.specs.Streams.{closes, closings}
 use Rattle.route_feed.proofs.Beginnings.{first_lines}
-use Rattle.route_installer.proofs.CutLines.{Cut, batches_are_oks, haves-append, no_haves, ok_keeps, oks-append, where_cut}
+use Rattle.route_installer.proofs.CutLines.{Cut, batches_are_oks, ok_keeps, oks-append, where_cut}
 use Rattle.route_installer.proofs.GivenLines.{carried_hops, first_of_map, lines_operations, only_operations}
 use Rattle.route_installer.proofs.KeptTable.{first_too, kept_agrees, kept_at_all_times}
 use Rattle.route_installer.proofs.LogNotes.{logs_are_first}
-use Rattle.route_installer.proofs.NotesInTurn.{events-append, may_split, replies_of-append}
+use Rattle.route_installer.proofs.NotesInTurn.{events-append, haves-append, may_split, no_haves, replies_of-append}
 use Rattle.route_installer.proofs.SpelledLines.{output_reads_back}
 
 map_both : {A B : Type 0} (f : A → B) (xs ys : List A) → map f xs ++ map f ys ≡ map f (xs ++ ys)

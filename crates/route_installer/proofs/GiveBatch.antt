@@ -1,7 +1,7 @@
 -- The bytes of a batch, and changes that are made one after another.
-use Rattle.std.proofs.Common.{◌≡◌, ℕ, ◌+◌, ◌<◌, List, [], ◌∷◌, ◌++◌, length, map, take, slice_index_or, Option, Result, refl, sym, ap, ◌∙◌, subst, append-nil}
+use Rattle.std.proofs.Common.{◌≡◌, ℕ, ◌+◌, ◌<◌, List, [], ◌∷◌, ◌++◌, length, map, take, slice_index_or, Option, Result, refl, sym, ap, ◌∙◌, subst, append-nil, arith}
 use Rattle.std.proofs.lemmas.Grind.{flat_map-append}
-use Rattle.std.proofs.lemmas.List.{map-append}
+use Rattle.std.proofs.lemmas.List.{length-append, map-append}
 use Rattle.route_laws.specs.Operations.{Operation}
 use Rattle.route_laws.specs.Painted.{painted, painted_all}
 use Rattle.route_laws.specs.Tables.{Route, route_of}
@@ -35,6 +35,13 @@ painted_all-append = after-append painted painted_all (λ s. refl) (λ s e es. r
 -- a batch is its operations and `ok`
 pub batch_is : (os : List Operation) → operation_bytes os ++ reply_line (Close Done) ≡ batch_bytes os
 batch_is os = ap (λ t. operation_bytes os ++ t) (sym (append-nil (update_line U.Done))) ∙ sym (flat_map-append update_line (map operation_line os) (U.Done ∷ []))
+
+-- it has bytes, as `ok` has some
+pub batch_some : (os : List Operation) → 0 < length (batch_bytes os)
+batch_some os =
+    let ok : length (reply_line (Close Done)) ≡ 3 = refl in
+    let sum = ap length (sym (batch_is os)) ∙ length-append (operation_bytes os) (reply_line (Close Done)) in
+    omega (arith, ok, sum)
 
 module _ {W : Type 0} (contents : W → Option (List ℕ)) where
   -- a batch whose operations were written

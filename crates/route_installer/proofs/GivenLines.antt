@@ -1,5 +1,5 @@
 -- The lines of an installer are its operations, and what they make is what the operations make.
-use Rattle.std.proofs.Common.{◌≡◌, Bool, true, false, not, cond, nat_lt, List, [], ◌∷◌, ◌++◌, map, filter, take, length, Option, Some, None, refl, sym, ap, ◌∙◌, append-nil}
+use Rattle.std.proofs.Common.{◌≡◌, ◌⊎◌, ℕ, suc, ◌+◌, inl, inr, ⊎_elim, Bool, true, false, not, cond, nat_lt, List, [], ◌∷◌, ◌++◌, map, filter, take, length, Option, Some, None, refl, sym, ap, ◌∙◌, subst, append-nil, arith}
 use Rattle.std.specs.Option.{option_map}
 use Rattle.std.proofs.lemmas.List.Elements.{filter-append}
 use Rattle.ipnet_addr.specs.Addresses.{Address}
@@ -10,11 +10,13 @@ use Rattle.route_choices.proofs.Kept.{filter_map_swap, map_append}
 use Rattle.route_lines.specs.declared.fib_update.FibUpdate.{FibUpdate}
 use Rattle.route_lines.specs.declared.fib_update.FibUpdate.TheVariants as U
 use Rattle.route_laws.specs.Operations.{Operation, Install, Remove, after_all, between}
-use Rattle.route_laws.specs.Runs.{Event, Have, Told, Sync, Installer, after_event, given, gives, start}
+use Rattle.route_laws.specs.Runs.{Event, Have, Told, Sync, Installer, after_event, after_events, given, gives, start}
 use Rattle.route_laws.specs.Tables.{Route, covering, hop_at, longer, longest, match_number, match_of, route_of, with_route, without_block}
 use Rattle.route_laws.proofs.NetworksAt.{of_network_at}
-use Rattle.route_installer.specs.Installing.{begin, event_lines, events, operation_line, update_lines}
-use Rattle.route_installer.specs.Laws.{OutputIsGiven, carried_out, is_operation}
+use Rattle.route_installer.specs.Installing.{Noted, after_notes, batches, batches_given, begin, event_lines, event_of, events, operation_line, update_lines}
+use Rattle.route_installer.specs.Laws.{NotesGiveBatches, OutputIsGiven, carried_out, is_operation, lines_given}
+use Rattle.route_installer.proofs.KeptTable.{AtMostOne, one_event}
+use Rattle.route_installer.proofs.NotesInTurn.{batches-append, events-append, lines-append, tables_after}
 
 -- ---- the lines of operations
 
@@ -50,6 +52,40 @@ lines_operations s (e ∷ es) =
 
 pub output_is_given : OutputIsGiven
 output_is_given ns = lines_operations start (events begin ns)
+
+-- ---- the lines of one more note
+
+-- one event at most gives no batch, or one
+module _ (s : Installer) where
+  abbrev NoneOrBatch : List Event → Type 0
+  NoneOrBatch es = ((batches s es ≡ 0) × (update_lines s es ≡ [])) ⊎ ((batches s es ≡ 1) × (update_lines s es ≡ map operation_line (given s es) ++ U.Done ∷ []))
+
+  none_or_batch : (es : List Event) → AtMostOne (λ e. Unit {0}) es → NoneOrBatch es
+  none_or_batch es (inl none) = subst NoneOrBatch (sym none) (inl (refl, refl))
+  none_or_batch es (inr (e, is, any)) = subst NoneOrBatch (sym is) (go (Installer.kept (after_event s e)))
+    where
+      batch : List FibUpdate
+      batch = map operation_line (gives s e) ++ U.Done ∷ []
+
+      go : (b : Bool) → ((◌≡◌ {A = ℕ} (cond b 1 0) 0) × (cond b batch [] ++ [] ≡ [])) ⊎ ((◌≡◌ {A = ℕ} (cond b 1 0) 1) × (cond b batch [] ++ [] ≡ map operation_line (gives s e ++ []) ++ U.Done ∷ []))
+      go true = inr (refl, append-nil batch ∙ ap (λ os. map operation_line os ++ U.Done ∷ []) (sym (append-nil (gives s e))))
+      go false = inl (refl, refl)
+
+pub notes_give_batches : NotesGiveBatches
+notes_give_batches ns n =
+    let before = events begin ns in
+    let at = after_notes begin ns in
+    let these = event_of at n.note n.table in
+    let all : events begin (ns ++ n ∷ []) ≡ before ++ these = events-append begin ns (n ∷ []) ∙ ap (λ fs. before ++ fs) (append-nil these) in
+    let more = ap (batches start) all ∙ batches-append start before these in
+    let lines = ap (update_lines start) all ∙ lines-append start before these in
+    ⊎_elim
+    (λ none. inl ((let same : batches_given (ns ++ n ∷ []) ≡ batches_given ns = omega (arith, more, none.0) in same), lines ∙ ap (λ us. lines_given ns ++ us) none.1 ∙ append-nil (lines_given ns)))
+    (λ one. inr (
+      (let next : batches_given (ns ++ n ∷ []) ≡ suc (batches_given ns) = omega (arith, more, one.0) in next),
+      lines ∙ ap (λ us. lines_given ns ++ us) one.1 ∙ ap (λ T. lines_given ns ++ map operation_line (given T these) ++ U.Done ∷ []) (sym (tables_after begin ns)),
+    ))
+    (none_or_batch (after_events start before) these (one_event at n.note n.table))
 
 -- ---- lines carried out
 

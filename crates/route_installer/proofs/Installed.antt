@@ -26,7 +26,7 @@ use Rattle.route_installer.specs.Installs.{AppendsInstalled, WritesBatches, Writ
 use Rattle.route_feed.specs.Streams.{Change, closes, is_done}
 use Rattle.route_program.specs.Devices.{Closed}
 use Rattle.route_installer.proofs.ChangesInRange.{AreInRange, NoteInRange, are_changes, note_in_range, past_in_range}
-use Rattle.route_installer.proofs.NotesInTurn.{events-append, lines-append, tables_after}
+use Rattle.route_installer.proofs.NotesInTurn.{batches-append, events-append, lines-append, tables_after}
 use Rattle.route_feed.proofs.ReadLines.{of_notes, piece_spells}
 use Rattle.route_program.proofs.Written.{Closed-nil, waits_after, waits_more, waits_none}
 
@@ -50,14 +50,6 @@ fit-back s (e ∷ es) fs p = fit-back (after_event s e) es fs p.1
 
 printed-append : (us vs : List FibUpdate) → printed_updates (us ++ vs) ≡ printed_updates us ++ printed_updates vs
 printed-append us vs = flat_map-append update_line us vs
-
-one_if : (b : Bool) (x y z : ℕ) → x ≡ y + z → cond b (suc x) x ≡ cond b (suc y) y + z
-one_if true x y z e = let h : suc x ≡ suc y + z = omega (arith, e) in h
-one_if false x y z e = e
-
-batches-append : (s : Installer) (es fs : List Event) → batches s (es ++ fs) ≡ batches s es + batches (after_events s es) fs
-batches-append s [] fs = let h : batches s fs ≡ 0 + batches s fs = omega arith in h
-batches-append s (e ∷ es) fs = one_if (after_event s e).kept _ (batches (after_event s e) es) _ (batches-append (after_event s e) es fs)
 
 more_plus : (m n x : ℕ) → more_by (m + n) x ≡ more_by n (more_by m x)
 more_plus zero n x = let h : 0 + n ≡ n = omega arith in ap (λ k. more_by k x) h
@@ -320,6 +312,7 @@ module _ {R W : Type 0} (remaining : R → Option (List ℕ)) (contents : W → 
             begun = f.torn.front;
             missing = f.torn.back;
             are_too = are_notes_too s.before s.piece s.notes n s.taken.spelled s.taken.fit is f.fit;
+            some = f.some;
             is_front = f.torn.is_front;
             gives = gives_then contents c s.before s.notes f.torn.front old s.mid new s.taken f.torn.appended f.torn.flushes;
           },

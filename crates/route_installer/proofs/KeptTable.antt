@@ -15,17 +15,18 @@ use Rattle.route_laws.specs.LeastTables.{IsLeast}
 use Rattle.route_laws.specs.Nearest.{IsFewestTo}
 use Rattle.route_laws.specs.Networks.{routes_of}
 use Rattle.route_laws.specs.Operations.{IsHitless, Operation, after_all}
-use Rattle.route_laws.specs.Runs.{Event, Have, Told, Sync, Installer, IsMade, MayAllCome, after_event, after_events, given, gives, start, told}
+use Rattle.route_laws.specs.Runs.{Event, Have, Told, Sync, Installer, MayAllCome, after_events, given, gives, haves, start, told}
 use Rattle.route_laws.specs.Tables.{Route, IsTable, hop_at, route_of}
+use Rattle.route_laws.proofs.Between.{after-append}
 use Rattle.route_laws.proofs.Families.{least_too}
-use Rattle.route_laws.proofs.Runs.{Holds, holds, gives_hitless, gives_what_it_says, given_reaches, keeps_hops, sync_is_least, sync_stays, told_is_fewest}
+use Rattle.route_laws.proofs.Runs.{Holds, holds, gives_hitless, given_reaches, keeps_hops, sync_is_least, sync_stays, told_is_fewest}
 use Rattle.route_laws.proofs.Turning.{hitless_from}
 use Rattle.route_installer.specs.Installing.{Installing, Noted, after_note, after_notes, begin, committing, event_of, events, route_to}
-use Rattle.route_installer.specs.Laws.{AreFirst, HasSync, InstalledAgrees, InstalledAtAllTimes, InstalledIsHitless, InstalledTurnsOnce, IsNoHave, OperationsReach, RepliesAreFewest, SyncsAreLeast, SyncsStay, TurnsOnce, installed_by, operations_at, replies_of, table_by}
+use Rattle.route_installer.specs.Laws.{AreFirst, HasSync, InstalledAgrees, InstalledAtAllTimes, InstalledIsHitless, InstalledTurnsOnce, OperationsReach, RepliesAreFewest, SyncsAreLeast, SyncsStay, TurnsOnce, installed_by, operations_at, replies_of, table_by}
 use Rattle.route_feed.specs.Streams.{Change, closes, committed, ends_well, painted_hop, is_done}
 use Rattle.route_feed.proofs.Beginnings.{followed}
 use Rattle.route_installer.proofs.Moments.{hitless_is_turns_once}
-use Rattle.route_installer.proofs.NotesInTurn.{after_events-append, events-append, is_kept, kept_later, may_split, replies_of-append, tables_after}
+use Rattle.route_installer.proofs.NotesInTurn.{events-append, given-append, haves-append, is_kept, kept_later, may_split, no_haves, replies_of-append, tables_after}
 use Rattle.route_installer.proofs.ToldNotes.{committed_from, told_notes}
 
 -- ---- the hops
@@ -131,35 +132,21 @@ installed_is_hitless ns n may = hitless_at ns [] n may (one_event (after_notes b
 
 -- ---- what is installed after a note
 
--- an event that is no route that was installed already
-abbrev IsNoRoute : Event → Type 0
-IsNoRoute e = (r : Route) → e ≡ Have r → ⊥
-
-made_is_installed : (s : Installer) (e : Event) → IsNoRoute e → IsMade s e → after_all s.installed (gives s e) ≡ Installer.installed (after_event s e)
-made_is_installed s (Have r) other made = absurd (other r refl)
-made_is_installed s (Told rs N) other made = made
-made_is_installed s (Sync N) other made = made
-
-no_route : (s : Installing) (note : FibInput) (M : List Route) → IsNoHave note → AtMostOne IsNoRoute (event_of s note M)
-no_route s note M other = event_is IsNoRoute s M note (λ net hop e. absurd (other net hop e)) (λ r e. cc) (λ e r f. cc)
-
-module _ (ns : List Noted) (n : Noted) (may : MayAllCome start (events begin (ns ++ n ∷ []))) where
-  reach_at : AtMostOne IsNoRoute (now ns [] n) → after_all (Installer.installed (after_events start (es ns [] n))) (operations_at ns n) ≡ Installer.installed (after_events start (es ns [] n ++ now ns [] n))
-  reach_at (inl none) =
-      ap (λ fs. after_all (Installer.installed (after_events start (es ns [] n))) (given (Installing.tables (after_notes begin ns)) fs)) none
-      ∙ ap (λ fs. Installer.installed (after_events start fs)) (sym (ap (λ fs. es ns [] n ++ fs) none ∙ append-nil (es ns [] n)))
-  reach_at (inr (e, is, other)) =
-      let before = after_events start (es ns [] n) in
-      ap (after_all before.installed) (given_one ns [] n may e is)
-      ∙ made_is_installed before e other (gives_what_it_says (es ns [] n) e (subst (λ fs. MayAllCome start (es ns [] n ++ fs)) is (may_now ns [] n may)))
-      ∙ ap Installer.installed (sym (ap (λ fs. after_events start (es ns [] n ++ fs)) is ∙ after_events-append start (es ns [] n) (e ∷ [])))
-
 pub operations_reach : OperationsReach
-operations_reach ns n may other =
-    ap (λ M. after_all M (operations_at ns n)) (given_reaches (events begin ns) (may_before ns [] n may))
-    ∙ reach_at ns n may (no_route (after_notes begin ns) n.note n.table other)
-    ∙ ap (λ fs. Installer.installed (after_events start fs)) (sym (whole ns [] n ∙ append-nil (es ns [] n ++ now ns [] n)))
-    ∙ sym (given_reaches (events begin (ns ++ n ∷ [])) may)
+operations_reach ns may = given_reaches (events begin ns) may ∙ sym (ap Installer.installed (tables_after begin ns))
+
+-- once the table is kept, the operations at a note turn what is installed before it into what is installed after it
+next_reached : (ns : List Noted) (n : Noted) → MayAllCome start (events begin (ns ++ n ∷ [])) → Installer.kept (after_events start (events begin ns)) ≡ true
+    → after_all (installed_by ns) (operations_at ns n) ≡ installed_by (ns ++ n ∷ [])
+next_reached ns n may kept =
+    let before = es ns [] n in
+    let these = now ns [] n in
+    let as_before : haves (before ++ these) ≡ haves before = haves-append before these [] ∙ no_haves these (after_events start before) (haves before) kept (may_split start before these (may_now ns [] n may)).1 in
+    ap (λ T. after_all (installed_by ns) (given T these)) (tables_after begin ns)
+    ∙ sym (after-append (haves before) (given start before) (given (after_events start before) these))
+    ∙ ap (after_all (haves before)) (sym (given-append start before these))
+    ∙ ap (λ M. after_all M (given start (before ++ these))) (sym as_before)
+    ∙ ap (λ fs. after_all (haves fs) (given start fs)) (sym (whole ns [] n ∙ append-nil (before ++ these)))
 
 -- ---- a beginning of the notes
 
@@ -168,15 +155,7 @@ first_too bytes refusals ns later first =
     let (more, split) = first in
     (replies_of later ++ more, split ∙ ap (λ ls. ls ++ more) (replies_of-append ns later) ∙ append_assoc (replies_of ns) (replies_of later) more)
 
--- once the table is kept no route is told as installed
-kept_no_have : (ns : List Noted) (n : Noted) → MayAllCome start (events begin (ns ++ n ∷ [])) → Installer.kept (after_events start (events begin ns)) ≡ true → IsNoHave n.note
-kept_no_have ns n may kept net hop e =
-    let m = (may_split start (es ns [] n) (now ns [] n) (may_now ns [] n may)).1 in
-    let k = (subst (λ (note : FibInput). MayAllCome (after_events start (es ns [] n)) (event_of (at ns [] n) note n.table)) e m).0.0 in
-    let both = sym k ∙ kept in
-    cc
-
--- so at a note each address turns from the hop that the replies before it commit to that of the replies with it
+-- at a note each address turns from the hop that the replies before it commit to that of the replies with it
 pub kept_turns : (ns : List Noted) (n : Noted) → MayAllCome start (events begin (ns ++ n ∷ [])) → Installer.kept (after_events start (events begin ns)) ≡ true → (x : Address) → IsAddress x
     → TurnsOnce (installed_by ns) (operations_at ns n) x (painted_hop (committed (replies_of ns)) x) (painted_hop (committed (replies_of (ns ++ n ∷ []))) x)
 kept_turns ns n may kept x a =
@@ -184,7 +163,7 @@ kept_turns ns n may kept x a =
     let os = operations_at ns n in
     let still = ap (λ fs. Installer.kept (after_events start fs)) (whole ns [] n ∙ append-nil (es ns [] n ++ now ns [] n)) ∙ kept_later start (es ns [] n) (now ns [] n) kept in
     subst (λ old. TurnsOnce M os x old (painted_hop (committed (replies_of (ns ++ n ∷ []))) x)) (kept_hops ns (may_before ns [] n may) kept x a)
-    (subst (TurnsOnce M os x (hop_at M x)) (ap (λ N. hop_at N x) (operations_reach ns n may (kept_no_have ns n may kept)) ∙ kept_hops (ns ++ n ∷ []) may still x a)
+    (subst (TurnsOnce M os x (hop_at M x)) (ap (λ N. hop_at N x) (next_reached ns n may kept) ∙ kept_hops (ns ++ n ∷ []) may still x a)
     ((hitless_is_turns_once M os).0 (installed_is_hitless ns n may) x a))
 
 pub installed_turns_once : InstalledTurnsOnce

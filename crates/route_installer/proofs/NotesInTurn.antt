@@ -1,12 +1,13 @@
 -- Notes one after another.
-use Rattle.std.proofs.Common.{◌≡◌, true, List, [], ◌∷◌, ◌++◌, inl, inr, refl, sym, ap, ◌∙◌, subst}
+use Rattle.std.proofs.Common.{◌≡◌, ℕ, suc, ◌+◌, Bool, true, false, cond, List, [], ◌∷◌, ◌++◌, inl, inr, refl, sym, ap, ◌∙◌, subst, arith}
 use Rattle.std.proofs.lemmas.List.Elements.{filter_map-append}
 use Rattle.ipnet_addr.proofs.Members.{In}
 use Rattle.ipnet_addr.proofs.Ascending.{In-from_Any}
 use Rattle.route_lines.specs.declared.fib_input.FibInput.{FibInput}
 use Rattle.route_lines.specs.declared.fib_input.FibInput.TheVariants as N
-use Rattle.route_laws.specs.Runs.{Event, Have, Told, Sync, Installer, MayAllCome, after_event, after_events, start}
-use Rattle.route_installer.specs.Installing.{Installing, Noted, after_note, after_notes, begin, event_lines, event_of, events, update_lines}
+use Rattle.route_laws.specs.Runs.{Event, Have, Told, Sync, Installer, MayAllCome, after_event, after_events, given, gives, start, with_haves}
+use Rattle.route_laws.specs.Tables.{Route, with_route}
+use Rattle.route_installer.specs.Installing.{Installing, Noted, after_note, after_notes, batches, begin, event_lines, event_of, events, update_lines}
 use Rattle.route_program.proofs.InTurn.{after-append, made-append}
 use Rattle.route_installer.specs.Laws.{HasSync, replies_of, reply_of_note}
 
@@ -15,6 +16,23 @@ after_events-append = after-append after_event after_events (λ s. refl) (λ s e
 
 pub lines-append : (s : Installer) (es fs : List Event) → update_lines s (es ++ fs) ≡ update_lines s es ++ update_lines (after_events s es) fs
 lines-append = made-append after_event after_events (λ s. refl) (λ s e es. refl) event_lines update_lines (λ s. refl) (λ s e es. refl)
+
+one_if : (b : Bool) (x y z : ℕ) → x ≡ y + z → cond b (suc x) x ≡ cond b (suc y) y + z
+one_if true x y z e = let h : suc x ≡ suc y + z = omega (arith, e) in h
+one_if false x y z e = e
+
+pub batches-append : (s : Installer) (es fs : List Event) → batches s (es ++ fs) ≡ batches s es + batches (after_events s es) fs
+batches-append s [] fs = let h : batches s fs ≡ 0 + batches s fs = omega arith in h
+batches-append s (e ∷ es) fs = one_if (after_event s e).kept _ (batches (after_event s e) es) _ (batches-append (after_event s e) es fs)
+
+pub given-append : (s : Installer) (es fs : List Event) → given s (es ++ fs) ≡ given s es ++ given (after_events s es) fs
+given-append = made-append after_event after_events (λ s. refl) (λ s e es. refl) gives given (λ s. refl) (λ s e es. refl)
+
+pub haves-append : (es fs : List Event) (M : List Route) → with_haves M (es ++ fs) ≡ with_haves (with_haves M es) fs
+haves-append [] fs M = refl
+haves-append (Have r ∷ es) fs M = haves-append es fs (with_route M r)
+haves-append (Told rs N ∷ es) fs M = haves-append es fs M
+haves-append (Sync N ∷ es) fs M = haves-append es fs M
 
 -- the first of some events may come, and then the later ones
 pub may_split : (s : Installer) (es fs : List Event) → MayAllCome s (es ++ fs) → MayAllCome s es × MayAllCome (after_events s es) fs
@@ -42,6 +60,13 @@ kept_stays (Sync N ∷ es) s k = kept_stays es (after_event s (Sync N)) refl
 
 pub kept_later : (s : Installer) (es fs : List Event) → Installer.kept (after_events s es) ≡ true → Installer.kept (after_events s (es ++ fs)) ≡ true
 kept_later s es fs k = ap Installer.kept (after_events-append s es fs) ∙ kept_stays fs (after_events s es) k
+
+-- once the table is kept no route is told as installed
+pub no_haves : (es : List Event) (s : Installer) (M : List Route) → s.kept ≡ true → MayAllCome s es → with_haves M es ≡ M
+no_haves [] s M k m = refl
+no_haves (Have r ∷ es) s M k m = let both = sym m.0.0 ∙ k in absurd (cc)
+no_haves (Told rs N ∷ es) s M k m = no_haves es (after_event s (Told rs N)) M k m.1
+no_haves (Sync N ∷ es) s M k m = no_haves es (after_event s (Sync N)) M refl m.1
 
 sync_keeps : (ns : List Noted) (s : Installing) (n : Noted) → In n ns → n.note ≡ N.Sync → Installer.kept (after_events s.tables (events s ns)) ≡ true
 sync_keeps [] s n i e = absurd i

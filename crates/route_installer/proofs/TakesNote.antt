@@ -29,13 +29,13 @@ use Rattle.route_lines.specs.declared.reply.Reply.TheVariants.{Close}
 use Rattle.route_program.specs.declared.counted.Counted.{Counted}
 use Rattle.route_program.specs.declared.error.RunError.{RunError}
 use Rattle.route_program.specs.declared.error.RunError.TheVariants as Why
-use Rattle.route_installer.specs.InnerInstalling.{AllFit, Has, Replaces, Takes, TakesNone, TakesNote, TakesNoteLine, batch_bytes, tables_of, note_in}
+use Rattle.route_installer.specs.InnerInstalling.{AllFit, Fails, Has, Replaces, Takes, TakesNone, TakesNote, TakesNoteLine, batch_bytes, tables_of, note_in}
 use Rattle.route_feed.specs.InnerLines.{reply_line}
 use Rattle.route_feed.specs.InnerWaiting.{changes_of}
-use Rattle.route_installer.specs.Installing.{Installing, MayWant, batches, committing, event_of, pending_past, printed_updates, route_to, update_lines}
+use Rattle.route_installer.specs.Installing.{Installing, MayWant, Noted, batches, committing, event_of, noted_bytes, pending_past, printed_updates, route_to, update_lines}
 use Rattle.route_feed.specs.Streams.{Change, change_of, closes, is_done, pending_after}
 use Rattle.route_program.specs.Devices.{Closed, Closes, Torn}
-use Rattle.route_installer.proofs.GiveBatch.{batch_is}
+use Rattle.route_installer.proofs.GiveBatch.{batch_is, batch_some}
 use Rattle.route_program.proofs.Written.{Closed-nil}
 
 -- waiting changes as routes
@@ -88,6 +88,10 @@ module _ {W : Type 0} (contents : W → Option (List ℕ)) where
     closed = subst (λ l. Closed contents (batches a.tables l) old new (printed_updates (update_lines a.tables l))) (sym e) closed;
   }
 
+  -- a batch of a note in which the writer failed
+  Fails-of : (a : Installing) (n : Noted) (old new : Counted W) (os : List Operation) → AllFit a.tables (event_of a n.note n.table) → batch_bytes os ≡ noted_bytes a n → Torn contents old new (batch_bytes os) → Fails contents a n old new
+  Fails-of a n old new os fit is torn = record { fit = fit; some = subst (λ t. 0 < length t) is (batch_some os); torn = subst (Torn contents old new) is torn }
+
   -- an event where the table is not kept
   silent : (s : Installer) (e : Event) (old : Counted W) → (after_event s e).kept ≡ false → Closed contents (batches s (e ∷ [])) old old (printed_updates (update_lines s (e ∷ [])))
   silent s e old k = rw k (Closed-nil contents old)
@@ -108,7 +112,7 @@ module _ {W : Type 0} (contents : W → Option (List ℕ)) where
   taken_sync a b L old new (Ok done) least stays h =
       (L, Takes-of a b N.Sync L old new (Sync L ∷ []) refl ((least, stays), tt) h.0 (subst (Closed contents 1 old new) (ap printed_updates (sym (append-nil _))) h.2))
   taken_sync a b L old new (Err Why.Memory) least stays h = (tt, h)
-  taken_sync a b L old new (Err Why.Write) least stays h = (L, record { fit = ((least, stays), tt); torn = subst (Torn contents old new) (ap printed_updates (sym (append-nil _))) h.1 })
+  taken_sync a b L old new (Err Why.Write) least stays h = (L, Fails-of a (record { note = N.Sync; table = L }) old new (between a.tables.installed L) ((least, stays), tt) (ap printed_updates (sym (append-nil _))) h.1)
   taken_sync a b L old new (Err Why.Read) least stays h = absurd h
   taken_sync a b L old new (Err Why.Line) least stays h = absurd h
 
@@ -120,14 +124,14 @@ module _ {W : Type 0} (contents : W → Option (List ℕ)) where
       stays : IsLeast (hop_at M) M
       stays = record { hops = record { table = m; same = λ x a. refl }; fewest = λ K k. omega (arith, same, least.fewest K k) }
 
-      text : reply_line (Close Done) ≡ printed_updates (update_lines (record { table = M; installed = M; kept = true }) (Sync M ∷ []))
-      text = batch_is [] ∙ ap batch_bytes (sym (none_between M m)) ∙ ap printed_updates (sym (append-nil _))
+      text : batch_bytes [] ≡ printed_updates (update_lines (record { table = M; installed = M; kept = true }) (Sync M ∷ []))
+      text = ap batch_bytes (sym (none_between M m)) ∙ ap printed_updates (sym (append-nil _))
 
       go : (k : Result Unit RunError) → Closes contents 1 old new k (reply_line (Close Done)) → TakesNote contents (kept_at M cs) N.Sync old k (kept_at M cs) new
-      go (Ok done) q = (M, Takes-of (kept_at M cs) (kept_at M cs) N.Sync M old new (Sync M ∷ []) refl ((stays, (λ k l. refl)), tt) refl (subst (Closed contents 1 old new) text q))
+      go (Ok done) q = (M, Takes-of (kept_at M cs) (kept_at M cs) N.Sync M old new (Sync M ∷ []) refl ((stays, (λ k l. refl)), tt) refl (subst (Closed contents 1 old new) (batch_is [] ∙ text) q))
       go (Err e) q =
           subst (λ k. TakesNote contents (kept_at M cs) N.Sync old (Err k) (kept_at M cs) new) (sym q.0)
-          (M, record { fit = ((stays, (λ k l. refl)), tt); torn = subst (Torn contents old new) text q.1 })
+          (M, Fails-of (kept_at M cs) (record { note = N.Sync; table = M }) old new [] ((stays, (λ k l. refl)), tt) text (subst (Torn contents old new) (batch_is []) q.1))
 
   -- ---- reply lines
 
@@ -174,7 +178,7 @@ module _ {W : Type 0} (contents : W → Option (List ℕ)) where
           (T, Takes-of (kept_at M (c ∷ cs)) b (N.Reply (Close Done)) T old new (Told (map route_to (c ∷ cs)) T ∷ []) refl ((λ k. fit), tt) e (subst (Closed contents 1 old new) text q))
       go (Err e) q next =
           subst (λ k. TakesNote contents (kept_at M (c ∷ cs)) (N.Reply (Close Done)) old (Err k) b new) (sym q.0)
-          (T, record { fit = ((λ k. fit), tt); torn = subst (Torn contents old new) text q.1 })
+          (T, Fails-of (kept_at M (c ∷ cs)) (record { note = N.Reply (Close Done); table = T }) old new (between M T) ((λ k. fit), tt) text q.1)
 
   -- memory was wanting before anything was written
   pub nothing_wanted : (a b : Installing) (note : FibInput) (old : Counted W) (e : RunError) → e ≡ Why.Memory → MayWant a note → TakesNote contents a note old (Err e) b old

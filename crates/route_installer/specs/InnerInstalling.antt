@@ -1,5 +1,5 @@
 -- The effect of an input line on an installer.
-use Rattle.std.specs.Prelude.{◌≡◌, ℕ, true, false, not, List, [], ◌∷◌, ◌++◌, map, Option, Some, is_some, unwrap_or, MatchOption, Result, Ok, Err, codes}
+use Rattle.std.specs.Prelude.{◌≡◌, ◌<◌, ℕ, true, false, not, List, [], ◌∷◌, ◌++◌, length, map, Option, Some, is_some, unwrap_or, MatchOption, Result, Ok, Err, codes}
 use Rattle.route_lines.specs.declared.cutter.Line.{Line}
 use Rattle.route_lines.specs.declared.fib_input.FibInput.{FibInput}
 use Rattle.route_lines.specs.Spelled.{note_of}
@@ -75,9 +75,10 @@ module _ {W : Type 0} (contents : W → Option (List ℕ)) where
     pub next : b ≡ after_note a n
     pub closed : Closed contents (batches a.tables (event_of a n.note n.table)) old new (noted_bytes a n)
 
-  -- the writer failed at a note
+  -- the writer failed at a note that has output
   pub record Fails (a : Installing) (n : Noted) (old new : Counted W) : Type 0 where
     pub fit : AllFit a.tables (event_of a n.note n.table)
+    pub some : 0 < length (noted_bytes a n)
     pub torn : Torn contents old new (noted_bytes a n)
 
   -- a note was processed, or the reason why it was not

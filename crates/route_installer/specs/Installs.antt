@@ -1,5 +1,5 @@
 -- The effect of `install` on its devices, by its result.
-use Rattle.std.specs.Prelude.{◌≡◌, ℕ, ◌⊎◌, List, [], ◌∷◌, ◌++◌, Option, Some, Result, Ok, Err}
+use Rattle.std.specs.Prelude.{◌≡◌, ◌<◌, ℕ, ◌⊎◌, List, [], ◌∷◌, ◌++◌, length, Option, Some, Result, Ok, Err}
 use Rattle.std.specs.Io.KnownBytes.{Appends, Consumes, IsAtEnd}
 use Rattle.route_lines.specs.Bytes.{lines}
 use Rattle.route_lines.specs.Spelled.{note_of}
@@ -60,20 +60,22 @@ module _ {R W : Type 0} (remaining : R → Option (List ℕ)) (contents : W → 
     pub wants : MayWant (after_notes begin meets.notes) note
     pub gives : WritesBatches contents meets.notes old new
 
-  -- this line is a note too; the output of the notes before it was written and flushed, and a beginning of its own was written
+  -- This line is a note that has output. The output of the notes before it was written and flushed. Then a beginning of its own was
+  -- written, but not flushed.
   pub record MeetsFault (from to : Counted R) (old new : Counted W) : Type 0 where
     pub meets : Meets remaining from to
     pub last : Noted
     pub begun : List ℕ
     pub missing : List ℕ
     pub are_too : AreNotes (meets.before ++ meets.piece ∷ []) (meets.notes ++ last ∷ [])
+    pub some : 0 < length (noted_bytes (after_notes begin meets.notes) last)
     pub is_front : noted_bytes (after_notes begin meets.notes) last ≡ begun ++ missing
     pub gives : WritesBatchesThen contents meets.notes begun old new
 
   -- `Ok`: all was read, each line is a note, the output of the notes was written and flushed after each batch, and nothing failed.
   -- `Read`: the same for the lines read so far, and only the reader failed, in its last call. `Line`: one of the lines can't be accepted,
   -- and the output of those before it was written and flushed. `Memory`: the same of a note that may need memory, or nothing was done.
-  -- `Write`: the writer failed at a note, in its last call, and a beginning of the output of this note was written too, but not flushed.
+  -- `Write`: the writer failed at a note that has output, in its last call. A beginning of this output was written too, but not flushed.
   abbrev pub InstallEnds : Counted R → Counted R → Counted W → Counted W → Result Unit RunError → Type 0
   InstallEnds from to old new (Ok done) = Installs from to old new × IsAtEnd (remaining to.device) × (to.faults ≡ from.faults) × (new.faults ≡ old.faults)
   InstallEnds from to old new (Err Why.Read) = Installs from to old new × ReadFault from to × (new.faults ≡ old.faults)

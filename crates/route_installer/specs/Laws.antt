@@ -1,9 +1,7 @@
 -- The table that an installer keeps installed, given the lines of a leader.
 use Rattle.std.specs.Prelude.{◌≡◌, ◌↔◌, ◌⊎◌, ◌<◌, ◌≤◌, ◌^◌, ℕ, Bool, All, IsSome, true, false, List, [], ◌∷◌, ◌++◌, Any, Option, Some, None, Contains, filter, length, map, not, suc, take}
 use Rattle.std.specs.List.{filter_map}
-use Rattle.ipnet.specs.declared.ip_net.IpNet.{IpNet}
 use Rattle.ipnet_addr.specs.Addresses.{Address, IsAddress}
-use Rattle.route_choices.specs.declared.hop.Hop.{Hop}
 use Rattle.route_choices.specs.Choices.{default_preference}
 use Rattle.ipnet.specs.IpNets.{block}
 use Rattle.route_lines.specs.Bytes.{lines, rest}
@@ -60,10 +58,6 @@ installed_by ns = after_all (haves (events begin ns)) (given start (events begin
 abbrev pub HasSync : List Noted → Type 0
 HasSync ns = Any (λ n. n.note ≡ Notes.Sync) ns
 
--- the note doesn't list a route as installed
-abbrev pub IsNoHave : FibInput → Type 0
-IsNoHave note = (net : IpNet) (hop : Hop) → note ≡ Notes.Have net hop → ⊥
-
 -- ---- notes and events
 
 -- The machine of notes refines that of events: from any state on, the tables after notes are those after the events of the notes.
@@ -113,10 +107,9 @@ LogsAreFirst = (bytes : List ℕ) (refusals : List Bool) (front back log : List 
 abbrev pub InstalledIsHitless : Type 0
 InstalledIsHitless = (ns : List Noted) (n : Noted) → MayAllCome start (events begin (ns ++ n ∷ [])) → IsHitless (installed_by ns) (operations_at ns n)
 
--- the operations at a note turn the table installed before it into the table installed after it
+-- the table that the operations lead to is the one that the installer keeps
 abbrev pub OperationsReach : Type 0
-OperationsReach = (ns : List Noted) (n : Noted) → MayAllCome start (events begin (ns ++ n ∷ [])) → IsNoHave n.note
-    → after_all (installed_by ns) (operations_at ns n) ≡ installed_by (ns ++ n ∷ [])
+OperationsReach = (ns : List Noted) → MayAllCome start (events begin ns) → installed_by ns ≡ (after_notes begin ns).tables.installed
 
 -- right after a `sync`, the installed table is a least table of the committed hops
 abbrev pub SyncsAreLeast : Type 0
@@ -158,13 +151,23 @@ carried_out M (U.Install net hop ∷ us) = carried_out (with_route M (route_of n
 carried_out M (U.Remove net ∷ us) = carried_out (without_block M (block net)) us
 carried_out M (U.Done ∷ us) = carried_out M us
 
--- the lines are those of the operations, and `ok`
+-- the lines that are written at these notes
+abbrev pub lines_given : List Noted → List FibUpdate
+lines_given ns = update_lines start (events begin ns)
+
+-- apart from `ok`, the lines are those of the operations
 abbrev pub OutputIsGiven : Type 0
-OutputIsGiven = (ns : List Noted) → filter is_operation (update_lines start (events begin ns)) ≡ map operation_line (given start (events begin ns))
+OutputIsGiven = (ns : List Noted) → filter is_operation (lines_given ns) ≡ map operation_line (given start (events begin ns))
+
+-- one more note gives nothing, or one more batch: the lines of its operations, and then one `ok`
+abbrev pub NotesGiveBatches : Type 0
+NotesGiveBatches = (ns : List Noted) (n : Noted) →
+    ((batches_given (ns ++ n ∷ []) ≡ batches_given ns) × (lines_given (ns ++ n ∷ []) ≡ lines_given ns))
+    ⊎ ((batches_given (ns ++ n ∷ []) ≡ suc (batches_given ns)) × (lines_given (ns ++ n ∷ []) ≡ lines_given ns ++ map operation_line (operations_at ns n) ++ U.Done ∷ []))
 
 -- the lines are read back as they were written
 abbrev pub OutputReadsBack : Type 0
-OutputReadsBack = (ns : List Noted) → MayAllCome start (events begin ns) → updates_in (installed_bytes ns) ≡ update_lines start (events begin ns)
+OutputReadsBack = (ns : List Noted) → MayAllCome start (events begin ns) → updates_in (installed_bytes ns) ≡ lines_given ns
 
 -- Carry out the complete lines of any beginning of the output, on the table of the routes that the notes list as installed. Each address
 -- then has its hop in this table after as many of the operations.

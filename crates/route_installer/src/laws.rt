@@ -1,5 +1,5 @@
 //! Theorems about an installer: public functions without a body, whose contracts are the theorems.
-ghost use Rattle.route_installer.specs.Laws.{BeginningsAreCarriedOut, BeginningsAreNotes, CutsAgree, HitlessIsTurnsOnce, InstalledAgrees, InstalledAtAllTimes, InstalledIsHitless, InstalledTurnsOnce, LogsAreFirst, NotesRefineEvents, OperationsReach, OutputAgrees, OutputIsGiven, OutputReadsBack, RepliesAreFewest, SyncsAreLeast, SyncsStay};
+ghost use Rattle.route_installer.specs.Laws.{BeginningsAreCarriedOut, BeginningsAreNotes, CutsAgree, HitlessIsTurnsOnce, InstalledAgrees, InstalledAtAllTimes, InstalledIsHitless, InstalledTurnsOnce, LogsAreFirst, NotesGiveBatches, NotesRefineEvents, OperationsReach, OutputAgrees, OutputIsGiven, OutputReadsBack, RepliesAreFewest, SyncsAreLeast, SyncsStay};
 
 /// The table that is installed by an installer. It consists of the routes of the `have` lines, changed by all operations that were
 /// written.
@@ -14,7 +14,7 @@ ghost use Rattle.route_installer.specs.Laws.{BeginningsAreCarriedOut, Beginnings
 /// - `turns`: after a `sync`, each address turns at one moment of a line. Before this moment it has the hop that the replies before the
 ///   line commit, and from it on that of the replies with the line.
 /// - `hitless`: the operations of one line change the hop of each address at most once.
-/// - `reaches`: the operations of a line turn the table installed before it into the table installed after it.
+/// - `reaches`: the table that the operations lead to is the one that the installer keeps.
 /// - `fewest`: after a `sync`, the operations at an `ok` are the fewest of all that bring each address to its committed hop.
 /// - `least`: right after a `sync`, no table with the same hops has fewer routes.
 /// - `stays`: a later `sync` has no operations if that is so already.
@@ -31,7 +31,8 @@ pub fn installed()
 
 /// The output of an installer.
 ///
-/// - `lines`: it consists of the lines of the operations, and an `ok` after those of each batch.
+/// - `lines`: apart from `ok`, it consists of the lines of the operations.
+/// - `batches`: each line of the input gives nothing, or one batch: the lines of its operations, and then one `ok`.
 /// - `read`: the lines are read back as they were written.
 /// - `notes`: each line of a leader's output is a line that an installer reads.
 /// - `logs`: the reply lines of a log of a leader's output are the first that the leader writes.
@@ -46,6 +47,7 @@ pub fn installed()
 ///   are left.
 pub fn carried_out()
     ensures lines { OutputIsGiven }
+    ensures batches { NotesGiveBatches }
     ensures read { OutputReadsBack }
     ensures notes { BeginningsAreNotes }
     ensures logs { LogsAreFirst }

@@ -32,7 +32,7 @@ impl<W: Write> Sink<W> for Installer {
 ///
 /// `have` lines list the routes that are installed at the start, and the reply lines of a leader report the hops. At each `sync` the
 /// installed table is turned into a smallest table with the committed hops. If it is one already, a later `sync` gives an empty batch.
-/// After the first `sync`, each `ok` of the input commits the pending changes. Its operations are the fewest of all that bring each
+/// Each `ok` of the input commits the pending changes. After the first `sync`, its operations are the fewest of all that bring each
 /// address to its committed hop.
 ///
 /// The operations of one line are a batch, which may be empty. Each batch ends with `ok`, and then the writer is flushed. An `ok` of the
