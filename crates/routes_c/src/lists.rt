@@ -306,7 +306,8 @@ pub extern "C" fn routes_own(alloc: Global, handle: &mut Handle, number: u32) ->
     list(alloc, handle, ListQuery::Own(number))
 }
 
-/// Lists the routes of a least table: each address has the same hop, and no such table has fewer routes.
+/// Lists the routes of a least table: each address has the same hop, and no such table has fewer routes. The routes ascend and have
+/// preference 100. If there are several such tables, it is any of them.
 ///
 /// Returns 0. Fails with 2 if an allocation fails, and 3 if the handle is closed. Then the list is unchanged.
 #[unsafe(no_mangle)]
