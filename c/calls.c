@@ -380,12 +380,14 @@ static void owned(routes_table *t, uint32_t hop) {
     CHECK(routes_route_at(t, at, &r) == ROUTES_MISSING);
 }
 
-/* The least table has no more routes than there are networks, and the same hops; some of them are checked. */
+/* The least table has no more routes than there are networks, all with the default preference, and the same hops; some of the hops are
+ * checked. */
 static void shortest(routes_table *t, size_t networks) {
     static routes_route least[MOST];
     CHECK(routes_least(t) == ROUTES_OK);
     size_t length = routes_read(t, 0, least, MOST);
     CHECK(length <= networks && routes_read(t, length, least, MOST) == 0);
+    for (const routes_route *r = least; r < least + length; r++) CHECK(r->pref == ROUTES_PREFERENCE);
     for (int i = 0; i < 200 && count; i++) {
         const struct kept *k = &kept[drawn() % count];
         number addr = k->addr ^ (width(k->family) - k->len ? drawn() & 1 : 0);

@@ -37,7 +37,8 @@ enum routes_answer {
     ROUTES_OK = 0,
     ROUTES_MISSING = 1,    /* no network contains the address, or it has no hop; the network has no such hop; or
                             * the index is past the end of the list */
-    ROUTES_NO_MEMORY = 2,  /* malloc or realloc failed */
+    ROUTES_NO_MEMORY = 2,  /* malloc or realloc failed, an index would be too large, or too many handles share an
+                            * index */
     ROUTES_CLOSED = 3,     /* the table, the index or the follower is not open, or it is open as another of these
                             * three kinds */
     ROUTES_OPEN = 4,       /* it is open already, as any of the three kinds */

@@ -30,12 +30,12 @@ pub record Adds (T U : List Stored) (b : Block) (k : Hop) (p : ℕ) (code : ℕ)
   pub not_full : code ≢ 5 → is_one_too_many (choices_at T b) k ≡ false
   pub no_memory : code ≡ 2 → choices_at T b ≡ []
 
--- a `del`: 0 if the network has the hop, and else 1; at 1 the change is unchanged
+-- a `del`: 0 if the network has the hop, and else 1; at 1 the table and the change are unchanged
 pub record Removes (T U : List Stored) (b : Block) (k : Hop) (code : ℕ) (old new : Change) : Type 0 where
   pub answers : (code ≡ 0) ⊎ (code ≡ 1)
   pub removed : U ≡ without_choice T b k
   pub done : code ≡ 0 → (holds_hop (choices_at T b) k ≡ true) × Tells T U b new
-  pub missing : code ≡ 1 → (holds_hop (choices_at T b) k ≡ false) × (new ≡ old)
+  pub missing : code ≡ 1 → (holds_hop (choices_at T b) k ≡ false) × (U ≡ T) × (new ≡ old)
 
 -- a call that changes a table and sets a change; 3 if there is no table, and then the change is unchanged
 abbrev pub Changes : Handle → Handle → (List Stored → List Stored → ℕ → Change → Change → Type 0) → ℕ → Change → Change → Type 0

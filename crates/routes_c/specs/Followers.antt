@@ -4,13 +4,13 @@ use Rattle.ipnet_addr.specs.Addresses.{Address}
 use Rattle.route_feed.specs.Following.{TakesLine}
 use Rattle.route_feed.specs.Streams.{WantsMemory}
 use Rattle.route_laws.specs.Flats.{flat_of}
-use Rattle.route_laws.specs.LeastTables.{IsLeast}
 use Rattle.route_laws.specs.Networks.{routes_of}
 use Rattle.route_laws.specs.Tables.{hop_at}
 use Rattle.route_lines.specs.Spelled.{reply_of}
 use Rattle.route_lines.specs.declared.reply.Reply.{Reply}
 use Rattle.routes_c.specs.Handles.{KeepsContent, follower_of}
 use Rattle.routes_c.specs.Lists.{MakesPieces, MakesRoutes}
+use Rattle.routes_c.specs.RouteLists.{AreLeast}
 use Rattle.routes_c.specs.declared.follower_session.FollowerSession.{FollowerSession}
 use Rattle.routes_c.specs.declared.handle.Handle.{Handle}
 use Rattle.routes_c.specs.declared.last_lists.LastLists.{LastLists}
@@ -52,4 +52,4 @@ FollowerFlattens s t code = FollowerMakes s t (λ k l. MakesPieces k l (flat_of 
 
 -- a least table of the hops
 abbrev pub FollowerLists : FollowerSession → FollowerSession → ℕ → Type 0
-FollowerLists s t code = FollowerMakes s t (λ k l. MakesRoutes k l (IsLeast (hop_at (routes_of s.follower.table)))) code
+FollowerLists s t code = FollowerMakes s t (λ k l. MakesRoutes k l (AreLeast (hop_at (routes_of s.follower.table)))) code

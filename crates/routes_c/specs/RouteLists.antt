@@ -1,13 +1,15 @@
 -- Lists of routes of a table, in the layout of C.
 use Rattle.std.specs.Prelude.{◌≡◌, ◌==◌, ℕ, List, Option, None, Some, filter, map, take}
+use Rattle.ipnet_addr.specs.Addresses.{Address}
 use Rattle.ipnet.specs.IpNets.{block, network_at}
+use Rattle.ipnet.specs.declared.ip_net.IpNet.{IpNet}
 use Rattle.ipnet_blocks.specs.Blocks.{Block}
 use Rattle.ipnet_blocks.specs.Maximal.{IsMaximal}
 use Rattle.route_choices.specs.Choices.{default_preference}
 use Rattle.route_choices.specs.declared.hop.Hop.{Hop}
 use Rattle.route_choices.specs.declared.hop.Hop.TheVariants.{Number, Drop}
 use Rattle.route_laws.specs.Flats.{blocks_of, flat_of}
-use Rattle.route_laws.specs.LeastTables.{IsLeast}
+use Rattle.route_laws.specs.LeastTables.{IsLeast, routes_for}
 use Rattle.route_laws.specs.Networks.{Stored, choices_at, routes_of}
 use Rattle.route_laws.specs.Onwards.{routes_after, routes_from}
 use Rattle.route_laws.specs.Tables.{Governed, Route as TableRoute, covering, hop_at, match_of, routes_inside}
@@ -45,6 +47,10 @@ hop_or_drop (Some r) = r.hop
 abbrev pub AreGoverned : List TableRoute → Block → List TableRoute → Type 0
 AreGoverned M n rs = (bs : List Block) × IsMaximal (Governed M n) bs × (rs ≡ map (default_route (hop_or_drop (match_of M n))) bs)
 
+-- the routes of a least table with these hops, each with the default preference
+abbrev pub AreLeast : (Address → Option ℕ) → List TableRoute → Type 0
+AreLeast h rs = (items : List (IpNet × Hop)) × IsLeast h (routes_for items) × (rs ≡ routes_for items)
+
 -- the routes that the call asks for
 abbrev pub AreAsked : ListQuery → List Stored → List TableRoute → Type 0
 AreAsked (ask.Inside n) T rs = rs ≡ routes_inside (routes_of T) (block n)
@@ -54,4 +60,4 @@ AreAsked (ask.After n limit) T rs = rs ≡ take limit (routes_after (routes_of T
 AreAsked (ask.All n) T rs = rs ≡ all_routes T (block n)
 AreAsked (ask.Governed n) T rs = AreGoverned (routes_of T) (block n) rs
 AreAsked (ask.Own k) T rs = rs ≡ own_routes (routes_of T) k
-AreAsked ask.Least T rs = IsLeast (hop_at (routes_of T)) rs
+AreAsked ask.Least T rs = AreLeast (hop_at (routes_of T)) rs

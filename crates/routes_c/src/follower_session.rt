@@ -1,13 +1,12 @@
 //! The content of an open handle of a follower.
 ghost use Rattle.std.specs.Prelude.{◌≡◌, IfErr, IfOk, false};
 ghost use Rattle.ipnet_addr.specs.Addresses.{address_of};
-ghost use Rattle.route_laws.specs.LeastTables.{IsLeast};
 ghost use Rattle.route_laws.specs.Networks.{routes_of};
 ghost use Rattle.route_laws.specs.Tables.{hop_at};
 ghost use Rattle.routes_c.specs.Contents.{hops_of_index};
 ghost use Rattle.routes_c.specs.Followers.{FollowerFlattens, FollowerLists, Follows, TellsHop};
 ghost use Rattle.routes_c.specs.Opens.{HasHopsOf, IsEmpty, IsNoIndex};
-ghost use Rattle.routes_c.specs.RouteLists.{Shown};
+ghost use Rattle.routes_c.specs.RouteLists.{AreLeast, Shown};
 
 use crate::index_session::IndexSession;
 use crate::last_lists::LastLists;
@@ -27,7 +26,7 @@ pub struct FollowerSession {
 
 /// The routes of a least table of the hops.
 fn least_of(alloc: Global, follower: &Follower) -> Result<Vec<Route>, AllocError>
-    ensures { IfOk result (λ v. Shown (IsLeast (hop_at (routes_of follower.now.table))) v.items) }
+    ensures { IfOk result (λ v. Shown (AreLeast (hop_at (routes_of follower.now.table))) v.items) }
 {
     match follower.least() {
         Ok(Some(found)) => items(alloc, &found),

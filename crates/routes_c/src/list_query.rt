@@ -1,10 +1,10 @@
 //! Lists of routes of a table, in the layout of C.
 ghost use Rattle.std.specs.Prelude.{◌≡◌, IfOk, map, take};
 ghost use Rattle.ipnet.specs.IpNets.{block};
-ghost use Rattle.route_laws.specs.LeastTables.{IsLeast, routes_for};
+ghost use Rattle.route_laws.specs.LeastTables.{routes_for};
 ghost use Rattle.route_laws.specs.Networks.{routes_of};
 ghost use Rattle.route_laws.specs.Tables.{hop_at};
-ghost use Rattle.routes_c.specs.RouteLists.{AreAsked, AreGoverned, Shown, default_route, own_routes, route_shown};
+ghost use Rattle.routes_c.specs.RouteLists.{AreAsked, AreGoverned, AreLeast, Shown, default_route, own_routes, route_shown};
 
 use crate::shown::{Route, shown_at};
 use ipnet::IpNet;
@@ -124,7 +124,7 @@ fn own(alloc: Global, table: &RouteTable, number: u32) -> Result<Vec<Route>, All
 
 /// The list of the routes of a least table.
 fn least(alloc: Global, table: &RouteTable) -> Result<Vec<Route>, AllocError>
-    ensures { IfOk result (λ v. Shown (IsLeast (hop_at (routes_of table.now))) v.items) }
+    ensures { IfOk result (λ v. Shown (AreLeast (hop_at (routes_of table.now))) v.items) }
 {
     match table.least() {
         Ok(found) => items(alloc, &found),

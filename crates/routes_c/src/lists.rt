@@ -2,13 +2,12 @@
 ghost use Rattle.std.specs.Prelude.{◌≡◌, ◌+◌, ◌*◌, ◌^◌, slice_get, take};
 ghost use Rattle.ipnet_addr.specs.Addresses.{Ipv4, Ipv6};
 ghost use Rattle.ipnet_blocks.specs.Networks.{block_of};
-ghost use Rattle.route_laws.specs.LeastTables.{IsLeast};
 ghost use Rattle.route_laws.specs.Networks.{routes_of};
 ghost use Rattle.route_laws.specs.Onwards.{routes_after, routes_from};
 ghost use Rattle.route_laws.specs.Tables.{covering, hop_at, routes_inside};
 ghost use Rattle.routes_c.specs.Handles.{Copies, ReadsOne, GoesOn, IsHandle, session_of};
 ghost use Rattle.routes_c.specs.Lists.{Flattens, ListsAt, ListsOf};
-ghost use Rattle.routes_c.specs.RouteLists.{AreAsked, AreGoverned, all_routes, own_routes};
+ghost use Rattle.routes_c.specs.RouteLists.{AreAsked, AreGoverned, AreLeast, all_routes, own_routes};
 
 use crate::handle::Handle;
 use crate::last_lists::{copy_from, tell_at};
@@ -306,13 +305,14 @@ pub extern "C" fn routes_own(alloc: Global, handle: &mut Handle, number: u32) ->
     list(alloc, handle, ListQuery::Own(number))
 }
 
-/// Lists the routes of a least table: each address has the same hop, and no such table has fewer routes.
+/// Lists the routes of a least table: each address has the same hop, and no such table has fewer routes. The routes ascend and have
+/// preference 100. If there are several such tables, it is any of them.
 ///
 /// Returns 0. Fails with 2 if an allocation fails, and 3 if the handle is closed. Then the list is unchanged.
 #[unsafe(no_mangle)]
 pub extern "C" fn routes_least(alloc: Global, handle: &mut Handle) -> u32
     requires { IsHandle handle.old }
-    ensures { ListsOf handle.old handle.new (λ T. IsLeast (hop_at (routes_of T))) result }
+    ensures { ListsOf handle.old handle.new (λ T. AreLeast (hop_at (routes_of T))) result }
 {
     list(alloc, handle, ListQuery::Least)
 }
