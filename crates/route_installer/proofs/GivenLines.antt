@@ -83,7 +83,7 @@ notes_give_batches ns n =
     (λ none. inl ((let same : batches_given (ns ++ n ∷ []) ≡ batches_given ns = omega (arith, more, none.0) in same), lines ∙ ap (λ us. lines_given ns ++ us) none.1 ∙ append-nil (lines_given ns)))
     (λ one. inr (
       (let next : batches_given (ns ++ n ∷ []) ≡ suc (batches_given ns) = omega (arith, more, one.0) in next),
-      lines ∙ ap (λ us. lines_given ns ++ us) one.1 ∙ ap (λ T. lines_given ns ++ map operation_line (given T these) ++ U.Done ∷ []) (sym (tables_after begin ns)),
+      lines ∙ ap (λ us. lines_given ns ++ us) one.1 ∙ ap (λ T. lines_given ns ++ (map operation_line (given T these) ++ U.Done ∷ [])) (sym (tables_after begin ns)),
     ))
     (none_or_batch (after_events start before) these (one_event at n.note n.table))
 
