@@ -6,8 +6,7 @@ use Rattle.ipnet_addr.proofs.Members.{In, In-cases}
 use Rattle.route_lines.specs.declared.fib_update.FibUpdate.{FibUpdate}
 use Rattle.route_lines.specs.declared.fib_update.FibUpdate.TheVariants as U
 use Rattle.route_laws.specs.Operations.{Operation, Install, Remove}
-use Rattle.route_laws.specs.Runs.{Event, Have, Told, Sync, Installer, after_event, after_events, gives}
-use Rattle.route_laws.specs.Tables.{Route}
+use Rattle.route_laws.specs.Runs.{Event, Installer, after_event, after_events, gives}
 use Rattle.route_installer.specs.Installing.{Installing, Noted, after_note, after_notes, batches, event_lines, event_of, events, operation_line, update_lines}
 use Rattle.route_installer.specs.Laws.{is_operation, oks}
 use Rattle.route_installer.proofs.KeptTable.{one_event}

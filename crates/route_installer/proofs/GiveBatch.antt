@@ -16,7 +16,6 @@ use Rattle.route_table.specs.declared.between.Operation.TheVariants as One
 use Rattle.ipnet.specs.IpNets.{block, network_at}
 use Rattle.route_program.specs.declared.counted.Counted.{Counted}
 use Rattle.route_program.specs.declared.error.RunError.{RunError}
-use Rattle.route_program.specs.declared.error.RunError.TheVariants as Why
 use Rattle.ipnet.specs.declared.ip_net.IpNet.{IpNet}
 use Rattle.route_choices.specs.Choices.{default_preference}
 use Rattle.route_choices.specs.declared.hop.Hop.{Hop}

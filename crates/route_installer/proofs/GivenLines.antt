@@ -1,5 +1,5 @@
 -- The lines of an installer are its operations, and what they make is what the operations make.
-use Rattle.std.proofs.Common.{◌≡◌, ◌⊎◌, ℕ, suc, ◌+◌, inl, inr, ⊎_elim, Bool, true, false, not, cond, nat_lt, List, [], ◌∷◌, ◌++◌, map, filter, take, length, Option, Some, None, refl, sym, ap, ◌∙◌, subst, append-nil, arith}
+use Rattle.std.proofs.Common.{◌≡◌, ◌⊎◌, ℕ, suc, inl, inr, ⊎_elim, Bool, true, false, not, cond, nat_lt, List, [], ◌∷◌, ◌++◌, map, filter, take, length, Option, Some, None, refl, sym, ap, ◌∙◌, subst, append-nil, arith}
 use Rattle.std.specs.Option.{option_map}
 use Rattle.std.proofs.lemmas.List.Elements.{filter-append}
 use Rattle.ipnet_addr.specs.Addresses.{Address}
@@ -13,7 +13,7 @@ use Rattle.route_laws.specs.Operations.{Operation, Install, Remove, after_all, b
 use Rattle.route_laws.specs.Runs.{Event, Have, Told, Sync, Installer, after_event, after_events, given, gives, start}
 use Rattle.route_laws.specs.Tables.{Route, covering, hop_at, longer, longest, match_number, match_of, route_of, with_route, without_block}
 use Rattle.route_laws.proofs.NetworksAt.{of_network_at}
-use Rattle.route_installer.specs.Installing.{Noted, after_notes, batches, batches_given, begin, event_lines, event_of, events, operation_line, update_lines}
+use Rattle.route_installer.specs.Installing.{after_notes, batches, batches_given, begin, event_lines, event_of, events, operation_line, update_lines}
 use Rattle.route_installer.specs.Laws.{NotesGiveBatches, OutputIsGiven, carried_out, is_operation, lines_given}
 use Rattle.route_installer.proofs.KeptTable.{AtMostOne, one_event}
 use Rattle.route_installer.proofs.NotesInTurn.{batches-append, events-append, lines-append, tables_after}
@@ -83,7 +83,7 @@ notes_give_batches ns n =
     (λ none. inl ((let same : batches_given (ns ++ n ∷ []) ≡ batches_given ns = omega (arith, more, none.0) in same), lines ∙ ap (λ us. lines_given ns ++ us) none.1 ∙ append-nil (lines_given ns)))
     (λ one. inr (
       (let next : batches_given (ns ++ n ∷ []) ≡ suc (batches_given ns) = omega (arith, more, one.0) in next),
-      lines ∙ ap (λ us. lines_given ns ++ us) one.1 ∙ ap (λ T. lines_given ns ++ map operation_line (given T these) ++ U.Done ∷ []) (sym (tables_after begin ns)),
+      lines ∙ ap (λ us. lines_given ns ++ us) one.1 ∙ ap (λ T. lines_given ns ++ (map operation_line (given T these) ++ U.Done ∷ [])) (sym (tables_after begin ns)),
     ))
     (none_or_batch (after_events start before) these (one_event at n.note n.table))
 

@@ -163,7 +163,7 @@ OutputIsGiven = (ns : List Noted) → filter is_operation (lines_given ns) ≡ m
 abbrev pub NotesGiveBatches : Type 0
 NotesGiveBatches = (ns : List Noted) (n : Noted) →
     ((batches_given (ns ++ n ∷ []) ≡ batches_given ns) × (lines_given (ns ++ n ∷ []) ≡ lines_given ns))
-    ⊎ ((batches_given (ns ++ n ∷ []) ≡ suc (batches_given ns)) × (lines_given (ns ++ n ∷ []) ≡ lines_given ns ++ map operation_line (operations_at ns n) ++ U.Done ∷ []))
+    ⊎ ((batches_given (ns ++ n ∷ []) ≡ suc (batches_given ns)) × (lines_given (ns ++ n ∷ []) ≡ lines_given ns ++ (map operation_line (operations_at ns n) ++ U.Done ∷ [])))
 
 -- the lines are read back as they were written
 abbrev pub OutputReadsBack : Type 0
