@@ -5,7 +5,7 @@ use std::fmt;
 #[derive(Clone, Copy, Debug, PartialEq, Eq)]
 #[non_exhaustive]
 pub enum Error {
-    /// An allocation failed.
+    /// An allocation failed, an index would be too large, or too many objects share an index.
     NoMemory,
     /// The network has routes by eight other hops.
     Full,
