@@ -117,8 +117,8 @@ uint32_t routes_add4(routes_table *table, uint32_t addr, uint8_t len, uint64_t h
 uint32_t routes_add6(routes_table *table, uint64_t high, uint64_t low, uint8_t len, uint64_t hop, uint16_t pref,
                      routes_change *change);
 
-/* Removes the route of this hop, and removes the network with its last route. Does not allocate. Returns ROUTES_OK and the
- * change, ROUTES_MISSING if the network has no such hop, ROUTES_TOO_LONG or ROUTES_CLOSED. */
+/* Removes the route of this hop, and removes the network with its last route. A hop from 2^32 on is ROUTES_DROP. Does not
+ * allocate. Returns ROUTES_OK and the change, ROUTES_MISSING if the network has no such hop, ROUTES_TOO_LONG or ROUTES_CLOSED. */
 uint32_t routes_del4(routes_table *table, uint32_t addr, uint8_t len, uint64_t hop, routes_change *change);
 uint32_t routes_del6(routes_table *table, uint64_t high, uint64_t low, uint8_t len, uint64_t hop, routes_change *change);
 
