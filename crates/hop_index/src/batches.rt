@@ -12,7 +12,7 @@ use ipnet_addr::bits::ipv4_of;
 /// The number of addresses that go through the steps together.
 const GROUP: usize = 32;
 
-/// An address in a form of its own.
+/// A type of addresses that `hops_of` takes: `IpAddr`, or `u32` for IPv4.
 pub trait Addressed: Copy {
     /// The address.
     ghost address: { Self → Address };
@@ -41,7 +41,7 @@ impl Addressed for u32 {
     }
 }
 
-/// A form of a hop, or of none.
+/// A type in which `hops_of` stores a hop, or none.
 pub trait FromHop: Copy {
     /// The form of a hop, or of none.
     ghost of_hop: { Option ℕ → Self };

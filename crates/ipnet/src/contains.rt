@@ -14,7 +14,7 @@ use std::net::IpAddr;
 pub trait Contains<T> {
     ghost contained: { Self → T → Type 0 };
 
-    /// Returns whether each address of `other` is an address of `self`.
+    /// Returns whether `other` is inside `self`: each address of a network, or the one address.
     ///
     /// # Examples
     /// For `narrow`, 10.1.0.0/16; `v4` parses a text:

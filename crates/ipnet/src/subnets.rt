@@ -128,6 +128,7 @@ pub enum IpSubnets {
     V6(Ipv6Subnets),
 }
 
+/// The subnets of an IPv4 iterator.
 impl From<Ipv4Subnets> for IpSubnets {
     ghost use Rattle.ipnet.specs.declared.subnets.IpSubnets.TheVariants.{V4};
 
@@ -138,6 +139,7 @@ impl From<Ipv4Subnets> for IpSubnets {
     }
 }
 
+/// The subnets of an IPv6 iterator.
 impl From<Ipv6Subnets> for IpSubnets {
     ghost use Rattle.ipnet.specs.declared.subnets.IpSubnets.TheVariants.{V6};
 

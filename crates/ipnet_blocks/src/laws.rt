@@ -17,12 +17,12 @@ pub fn inside_by_numbers()
     ensures { InsideByNumbers }
 {}
 
-/// A block is inside another exactly if its bit string begins with the other's.
+/// Within a family, a block is inside another exactly if its bit string begins with the other's.
 pub fn begins_is_inside()
     ensures { BeginsIsInside }
 {}
 
-/// The ascending order is total, strict and transitive, and is the order of the bit strings.
+/// The ascending order is total, strict and transitive. Within a family it is the order of the bit strings.
 pub fn order()
     ensures total { OrderIsTotal }
     ensures strict { OrderIsStrict }
@@ -30,8 +30,8 @@ pub fn order()
     ensures strings { OrderIsOfStrings }
 {}
 
-/// A set of addresses has exactly one list of maximal blocks. No list of blocks with the same union is shorter, and no other ascending
-/// list is as short.
+/// A set of addresses has only one list of maximal blocks, and `search` finds it. Its union is the set. No list of blocks with this union
+/// is shorter, and no other ascending list is as short. A block of the set is maximal exactly if its parent isn't inside the set.
 pub fn maximal()
     ensures unique { MaximalIsUnique }
     ensures union { MaximalIsUnion }

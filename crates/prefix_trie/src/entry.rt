@@ -24,7 +24,8 @@ pub struct OccupiedEntry<'a, P: Prefix, T> {
     ghost stored: { IsSome (get map.now.entries (P.bits key)) },
 }
 
-/// The entry of a key that isn't stored. It holds the prefix that `entry` was called with. Only `Entry::insert` may store it.
+/// The entry of a key that wasn't stored when `entry` was called. It holds the prefix that `entry` was called with. `Entry::insert` may
+/// have stored the key since.
 #[derive(Drop)]
 pub struct VacantEntry<'a, P: Prefix, T> {
     map: &'a mut PrefixMap<P, T>,
@@ -37,7 +38,7 @@ pub struct VacantEntry<'a, P: Prefix, T> {
 /// The entry of a key, stored or not.
 #[derive(Drop)]
 pub enum Entry<'a, P: Prefix, T> {
-    /// The key isn't stored.
+    /// The key wasn't stored when `entry` was called. `Entry::insert` may have stored it since.
     Vacant(VacantEntry<'a, P, T>),
     /// The key is stored.
     Occupied(OccupiedEntry<'a, P, T>),
@@ -322,7 +323,8 @@ impl<'a, P: Prefix, T> Entry<'a, P, T> {
     ghost use Rattle.prefix_trie.specs.Seen.{with_value};
     ghost use Rattle.prefix_trie.specs.Entry.{entry_map_ref, entry_map, entry_key, entry_value, entry_lends_ok, is_occupied, IsStored};
 
-    /// Returns the key. If it is stored, its bits after the prefix are zero; else it is the prefix that `entry` was called with.
+    /// Returns the key. If it was stored when `entry` was called, its bits after the prefix are zero; else it is the prefix that `entry` was
+    /// called with.
     ///
     /// # Examples
     /// `entry` is that of 10.1.2.3/16, which is stored; `is_text` compares a network with a text:
@@ -400,9 +402,10 @@ impl<'a, P: Prefix, T> Entry<'a, P, T> {
     where
         P: Drop,
         T: Drop,
-        // The entry refers to the same map and the same key.
+        // The entry refers to the same map and the same key, and its variant stays.
         ensures same_map { (entry_map_ref self.new).ghost_name ≡ (entry_map_ref self.old).ghost_name }
         ensures same_key { entry_key self.new ≡ entry_key self.old }
+        ensures same_kind { is_occupied self.new ≡ is_occupied self.old }
 
         // On success `value` is stored and the old value returned; no node on the path of a new key is spare any more.
         ensures old { IfOk result (λ old. old ≡ entry_value self.old) }

@@ -6,9 +6,9 @@ ghost use Rattle.prefix_trie.specs.declared.refused.Refused.{Refused as AnyRefus
 
 use crate::refused::Refused;
 
-/// A network is inside another exactly if its bit string begins with the other's. A walk visits networks by first address, then by
-/// length. So the children of a key are the stored networks inside it, its cover is the stored networks that contain it, and all
-/// walks ascend.
+/// Within a family, a network is inside another exactly if its bit string begins with the other's, and a walk visits networks by first
+/// address, then by length. So the children of a key are the stored networks inside it, its cover is the stored networks that contain
+/// it, and all walks ascend.
 pub fn networks()
     ensures inside { BegunAreInside }
     ensures order { WalksAscend }

@@ -8,8 +8,9 @@ ghost use Rattle.route_choices.specs.declared.too_many.TooMany.{TooMany as AnyRe
 use crate::hop::Hop;
 use crate::too_many::TooMany;
 
-/// The choices of one network. No other choice beats the first one. `with_one`: adding a choice replaces the one with the same hop.
-/// `without_one`: removing a hop leaves the others. Both keep the order, at most eight choices, and each hop once.
+/// The choices of one network. The best is the one that no other beats, and of two choices with different hops exactly one beats the
+/// other. `with_one`: adding a choice replaces the one with the same hop. `without_one`: removing a hop leaves the others. Both keep the
+/// order, at most eight choices, and each hop once. Two lists with the same choices are equal.
 pub fn choices()
     ensures best { BestIsUnbeaten }
     ensures one { OneBeats }

@@ -15,9 +15,9 @@ use Rattle.route_laws.specs.Tables.{hop_at}
 use Rattle.route_program.specs.declared.counted.Counted.{Counted}
 use Rattle.route_program.specs.declared.error.RunError.{RunError}
 use Rattle.route_program.specs.declared.error.RunError.TheVariants as Why
-use Rattle.route_feed.specs.Following.{State, TakesLine, hop_after}
-use Rattle.route_feed.specs.InnerLines.{reply_in}
-use Rattle.route_feed.specs.InnerFollowing.{FollowsLine, hop_once, AllReplies}
+use Rattle.route_feed.specs.Following.{FollowsLine, State, TakesLine, hop_after}
+use Rattle.route_feed.specs.Lines.{reply_in}
+use Rattle.route_feed.specs.InnerFollowing.{hop_once, AllReplies}
 use Rattle.route_program.specs.Run.{TakesAll}
 use Rattle.route_feed.specs.Streams.{Change, change_of, closes, is_done, ends_well, committed, painted_over, pending_after}
 use Rattle.route_feed.proofs.Carried.{painted-append}

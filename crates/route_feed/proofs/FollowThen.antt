@@ -26,7 +26,7 @@ use Rattle.route_program.specs.declared.error.RunError.TheVariants as Why
 use Rattle.route_feed.specs.Following.{State}
 use Rattle.route_feed.specs.Follows.{AreReplies, followed, FollowEnds}
 use Rattle.route_feed.specs.InnerFollowing.{hop_once, AllReplies}
-use Rattle.route_feed.specs.InnerLines.{reply_in}
+use Rattle.route_feed.specs.Lines.{reply_in}
 use Rattle.route_feed.specs.InnerReaching.{Reached, Stops}
 use Rattle.route_program.specs.Run.{Runs, TakesAll}
 use Rattle.route_feed.specs.Replies.{printed}

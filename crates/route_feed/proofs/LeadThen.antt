@@ -19,7 +19,7 @@ use Rattle.route_program.specs.declared.error.RunError.{RunError}
 use Rattle.route_program.specs.declared.error.RunError.TheVariants as Why
 use Rattle.route_program.specs.Counted.{CanCount, more_by}
 use Rattle.route_feed.specs.InnerReplies.{replies_to_rest, reply_to_rest}
-use Rattle.route_feed.specs.InnerLines.{command_in, reply_line}
+use Rattle.route_feed.specs.Lines.{command_in, reply_line}
 use Rattle.route_program.specs.Run.{TakesAll, Runs}
 use Rattle.route_feed.specs.LeadsLine.{Answers}
 use Rattle.route_feed.specs.Leads.{LeadEnds, Stopped}

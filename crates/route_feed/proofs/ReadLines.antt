@@ -10,7 +10,7 @@ use Rattle.route_lines.proofs.Notes.{notes}
 use Rattle.route_lines.proofs.Replies.{replies}
 use Rattle.route_lines.proofs.Spells.{command_found, note_found, reply_found, update_found}
 use Rattle.route_lines.proofs.Updates.{updates}
-use Rattle.route_feed.specs.InnerLines.{spelled_in}
+use Rattle.route_feed.specs.Lines.{spelled_in}
 
 -- a text spells one line at most, and none where it has over 80 bytes; this reads it
 pub record Grammar {A : Type 0} (Spells : List ℕ → A → Type 0) (read : List ℕ → Option A) : Type 0 where

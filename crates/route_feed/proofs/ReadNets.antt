@@ -20,7 +20,7 @@ use Rattle.route_choices.specs.Hops.{IsHop}
 use Rattle.route_choices.specs.declared.hop.Hop.{Hop}
 use Rattle.route_choices.specs.declared.hop.Hop.TheVariants.{Number, Drop}
 use Rattle.route_laws.proofs.NetworksAt.{of_network_at}
-use Rattle.route_feed.specs.InnerLines.{command_in}
+use Rattle.route_feed.specs.Lines.{command_in}
 use Rattle.route_feed.specs.Laws.{IsInRange}
 use Rattle.route_feed.specs.Output.{whole_commands}
 use Rattle.route_feed.proofs.ReadLines.{of_commands, piece_spells}

@@ -27,7 +27,7 @@ use Rattle.route_feed.specs.Laws.{LinesKeepHops, LinesRebuild, LinesStayLeast, N
 use Rattle.route_feed.specs.Output.{at_end, table_after, whole_commands}
 use Rattle.route_feed.specs.Steps.{Answer, is_too_many, may_refuse, step}
 use Rattle.route_feed.specs.Streams.{committed, painted_hop, replies_in}
-use Rattle.route_feed.specs.InnerLines.{add_command}
+use Rattle.route_feed.specs.Lines.{add_command}
 use Rattle.route_feed.proofs.Beginnings.{beginnings_agree}
 use Rattle.route_feed.proofs.Values.{empty_is_table}
 use Rattle.route_feed.proofs.WriteRoutes.{line_is}

@@ -11,7 +11,7 @@ use Rattle.route_choices.specs.Choices.{default_preference}
 use Rattle.route_choices.specs.declared.hop.Hop.{Hop}
 use Rattle.route_laws.specs.LeastTables.{routes_for}
 use Rattle.route_feed.specs.AddLines.{add_lines}
-use Rattle.route_feed.specs.InnerLines.{command_line}
+use Rattle.route_feed.specs.Lines.{command_line}
 
 -- the line of a command that adds a hop with the default preference
 pub line_is : (net : IpNet) (hop : Hop) → codes "add " ++ net_text net ++ codes " " ++ hop_text hop ++ codes "\n" ≡ command_line (Add net hop default_preference)

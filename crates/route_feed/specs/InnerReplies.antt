@@ -14,7 +14,7 @@ use Rattle.route_laws.specs.Networks.{Stored, routes_of}
 use Rattle.route_laws.specs.Tables.{Governed}
 use Rattle.route_program.specs.declared.counted.Counted.{Counted}
 use Rattle.route_program.specs.declared.error.RunError.{RunError}
-use Rattle.route_feed.specs.InnerLines.{reply_line}
+use Rattle.route_feed.specs.Lines.{reply_line}
 use Rattle.route_program.specs.Devices.{Closes}
 use Rattle.route_feed.specs.Replies.{printed}
 use Rattle.route_feed.specs.Steps.{change_line}

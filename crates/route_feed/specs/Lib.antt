@@ -1,6 +1,7 @@
 pub mod Replies
 pub mod Streams
 pub mod Steps
+pub mod Lines
 pub mod Output
 pub mod Leads
 pub mod LeadsLine
@@ -9,7 +10,6 @@ pub mod Follows
 pub mod AddLines
 pub mod Shortens
 pub mod Laws
-pub mod InnerLines
 pub mod InnerReplies
 pub mod InnerWaiting
 pub mod InnerFollowing

@@ -2,7 +2,7 @@
 ghost use Rattle.std.specs.Prelude.{◌≡◌, ◌≢◌, [], ◌∷◌, IsErr, IsTrue, Some};
 ghost use Rattle.ipnet.specs.IpNets.{block};
 ghost use Rattle.route_program.specs.Counted.{CanCount};
-ghost use Rattle.route_feed.specs.InnerLines.{command_in};
+ghost use Rattle.route_feed.specs.Lines.{command_in};
 ghost use Rattle.route_feed.specs.InnerReplies.{GovernsAll, TellsGoverned, replies_to_rest, reply_to_rest};
 ghost use Rattle.route_feed.specs.LeadsLine.{Answers};
 ghost use Rattle.route_feed.specs.Replies.{printed};
@@ -20,11 +20,11 @@ use std::io::Write;
 
 /// Replies to one line, given without its line end, as `lead` does: writes the same reply lines, and flushes the writer.
 ///
-/// The reply to a line of more than 80 bytes is `bad`.
+/// The reply to a line of more than 80 bytes is `bad`. The writer must have counted fewer than 2^64 - 1 faults.
 ///
 /// # Errors
-/// Only `Write`: if `write` or `flush` fails, or if `write` writes nothing. Then only a beginning of the reply was written, and the table
-/// is the one after the line.
+/// Only `Write`: if `write` or `flush` fails, or if `write` writes nothing. Then a beginning of the reply, or all of it, was written, and
+/// the table is the one after the line.
 ///
 /// # Examples
 /// The reply to `line`, in memory; `row_is` compares its last two arguments:

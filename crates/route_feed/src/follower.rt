@@ -11,9 +11,8 @@ ghost use Rattle.route_laws.specs.Networks.{routes_of};
 ghost use Rattle.route_laws.specs.Tables.{hop_at};
 ghost use Rattle.route_program.specs.declared.error.RunError.TheVariants as run;
 ghost use Rattle.route_feed.specs.declared.follower.FollowError.TheVariants as follow;
-ghost use Rattle.route_feed.specs.Following.{HasFirst, LacksMemory, State, TakesLine};
+ghost use Rattle.route_feed.specs.Following.{FollowsLine, HasFirst, LacksMemory, State, TakesLine};
 ghost use Rattle.route_feed.specs.Streams.{painted_over, WantsMemory};
-ghost use Rattle.route_feed.specs.InnerFollowing.{FollowsLine};
 ghost use Rattle.route_feed.specs.InnerWaiting.{changes_of, waiting_change};
 
 use ipnet::{IpAddr, IpNet};

@@ -1,5 +1,5 @@
 //! A leader's table, which replies to each line.
-ghost use Rattle.route_feed.specs.InnerLines.{command_in};
+ghost use Rattle.route_feed.specs.Lines.{command_in};
 ghost use Rattle.route_feed.specs.LeadsLine.{Answers};
 ghost use Rattle.route_program.specs.Counted.{CanCount};
 

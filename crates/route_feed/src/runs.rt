@@ -27,13 +27,13 @@ use std::io::{Read, Write};
 ///
 /// The output depends only on the bytes read and on which allocations failed, not on how the bytes were split into reads. If the reader's
 /// or the writer's type doesn't specify its bytes, as that of a file, the run does the same, but nothing is proved about these bytes. The
-/// writer is flushed after each reply, before the next reply begins.
+/// writer is flushed after each reply, before the next reply begins. The counts of reader and writer must be below 2^63.
 ///
 /// # Errors
 /// - `Memory` before anything is read or written.
 /// - `Read` if `read` fails, or if 2^62 calls of `read` don't reach the end. The replies to all complete lines were written.
-/// - `Write` if `write` or `flush` fails, or if `write` writes nothing. Only a beginning of the output for the bytes read was written, and
-///   each reply before the last one in it was flushed.
+/// - `Write` if `write` or `flush` fails, or if `write` writes nothing. A beginning of the output for the bytes read, or all of it, was
+///   written, and each reply before the last one in it was flushed.
 ///
 /// It never fails with `Line`.
 ///
@@ -68,7 +68,7 @@ pub fn lead<R: Read, W: Write>(
     lead_then(alloc, reader, writer, AtEnd::Free)
 }
 
-/// Runs as `lead` does. At the end it frees the memory of the table, or leaks it. Freeing it list by list, as `lead` does, takes up to an
+/// Runs as `lead` does. At the end it frees the memory of the table, or leaks it; after an error it may free it in any case. Freeing it list by list, as `lead` does, takes up to an
 /// eighth of the time of a run.
 ///
 /// # Errors
@@ -111,8 +111,9 @@ fn follow_all<R: Read, W: Write>(
 /// Reads reply lines until the end of the input. Then it writes the flat list of the hops that they report, and `ok`.
 ///
 /// Bytes after the last line end are ignored. The hop of an address is that of the last committed change whose block contains it. A `set`
-/// or `unset` line is committed if the next closing line is `ok`. If the reader's or the writer's type doesn't specify its bytes, as that
-/// of a file, the run does the same, but nothing is proved about these bytes.
+/// or `unset` line is committed if the next closing line is `ok`. The writer is flushed once, after the last line. If the reader's or the
+/// writer's type doesn't specify its bytes, as that of a file, the run does the same, but nothing is proved about these bytes. The counts
+/// of reader and writer must be below 2^63.
 ///
 /// # Errors
 /// Nothing is written, unless the error is `Write`.
@@ -120,7 +121,8 @@ fn follow_all<R: Read, W: Write>(
 /// - `Line` if a line isn't a reply line.
 /// - `Memory` before anything is read, or at a reply line with a change, or at one that commits changes.
 /// - `Read` if `read` fails, or if 2^62 calls of `read` don't reach the end.
-/// - `Write` if `write` or `flush` fails, or if `write` writes nothing. All input was read, and a beginning of the flat list was written.
+/// - `Write` if `write` or `flush` fails, or if `write` writes nothing. All input was read, and a beginning of the flat list, or all of it,
+///   was written.
 ///
 /// # Examples
 /// The bytes `input`, in a function that returns the output:
@@ -153,7 +155,7 @@ pub fn follow<R: Read, W: Write>(
     follow_then(alloc, reader, writer, AtEnd::Free)
 }
 
-/// Runs as `follow` does. At the end it frees the memory of the table, or leaks it.
+/// Runs as `follow` does. At the end it frees the memory of the table, or leaks it; after an error it may free it in any case.
 ///
 /// # Errors
 /// As in `follow`.
@@ -180,7 +182,7 @@ pub fn follow_then<R: Read, W: Write>(
 /// A leader that is given these lines has the same hops. If there are several smallest tables, any of them may be written. If no address
 /// has a hop, nothing is written. Bytes after the last line end are ignored. The writer is flushed once, after the last line. If the
 /// reader's or the writer's type doesn't specify its bytes, as that of a file, the run does the same, but nothing is proved about these
-/// bytes.
+/// bytes. The counts of reader and writer must be below 2^63.
 ///
 /// # Errors
 /// Nothing is written, unless the error is `Write`.
@@ -188,7 +190,8 @@ pub fn follow_then<R: Read, W: Write>(
 /// - `Line` if a line isn't a reply line.
 /// - `Memory` before anything is read, at a reply line with a change, at one that commits changes, or after all is read.
 /// - `Read` if `read` fails, or if 2^62 calls of `read` don't reach the end.
-/// - `Write` if `write` or `flush` fails, or if `write` writes nothing. All input was read, and a beginning of the lines was written.
+/// - `Write` if `write` or `flush` fails, or if `write` writes nothing. All input was read, and a beginning of the lines, or all of them,
+///   was written.
 ///
 /// # Examples
 /// The bytes `input`, in a function that returns the output:

@@ -4,7 +4,7 @@ ghost use Rattle.route_laws.specs.LeastTables.{routes_for};
 ghost use Rattle.route_feed.specs.AddLines.{add_lines};
 ghost use Rattle.route_program.specs.Counted.{CanCount};
 ghost use Rattle.route_feed.specs.Replies.{printed};
-ghost use Rattle.route_feed.specs.InnerLines.{HaveNoHostBits};
+ghost use Rattle.route_feed.specs.Lines.{HaveNoHostBits};
 ghost use Rattle.route_program.specs.Devices.{Delivers, Writes, Closes};
 
 use crate::body::Body;

@@ -21,7 +21,7 @@ use Rattle.route_choices.specs.Choices.{default_preference}
 use Rattle.route_choices.specs.declared.hop.Hop.{Hop}
 use Rattle.route_laws.specs.LeastTables.{routes_for}
 use Rattle.route_installer.specs.InnerInstalling.{batch_bytes, operation_bytes, update_line}
-use Rattle.route_feed.specs.InnerLines.{reply_line}
+use Rattle.route_feed.specs.Lines.{reply_line}
 use Rattle.route_program.specs.Devices.{Written, Closes, Torn}
 use Rattle.route_installer.specs.Installing.{operation_line}
 use Rattle.route_program.proofs.InTurn.{after-append}

@@ -30,7 +30,7 @@ use Rattle.route_program.specs.declared.counted.Counted.{Counted}
 use Rattle.route_program.specs.declared.error.RunError.{RunError}
 use Rattle.route_program.specs.declared.error.RunError.TheVariants as Why
 use Rattle.route_installer.specs.InnerInstalling.{AllFit, Fails, Has, Replaces, Takes, TakesNone, TakesNote, TakesNoteLine, batch_bytes, tables_of, note_in}
-use Rattle.route_feed.specs.InnerLines.{reply_line}
+use Rattle.route_feed.specs.Lines.{reply_line}
 use Rattle.route_feed.specs.InnerWaiting.{changes_of}
 use Rattle.route_installer.specs.Installing.{Installing, MayWant, Noted, batches, committing, event_of, noted_bytes, pending_past, printed_updates, route_to, update_lines}
 use Rattle.route_feed.specs.Streams.{Change, change_of, closes, is_done, pending_after}

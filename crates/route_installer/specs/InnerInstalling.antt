@@ -16,7 +16,7 @@ use Rattle.route_laws.specs.Tables.{Route, IsTable, hop_at}
 use Rattle.route_program.specs.declared.counted.Counted.{Counted}
 use Rattle.route_program.specs.declared.error.RunError.{RunError}
 use Rattle.route_program.specs.declared.error.RunError.TheVariants as Why
-use Rattle.route_feed.specs.InnerLines.{spelled_in}
+use Rattle.route_feed.specs.Lines.{spelled_in}
 use Rattle.route_installer.specs.Installing.{Installing, IsUnfit, MayWant, Noted, after_note, batches, event_of, noted_bytes, operation_line, printed_updates}
 use Rattle.route_program.specs.Devices.{Closed, Torn}
 

@@ -14,7 +14,7 @@ ghost use Rattle.route_table.specs.Operations.{network_of, operation_of};
 ghost use Rattle.route_program.specs.Counted.{CanCount};
 ghost use Rattle.route_program.specs.Devices.{Closes};
 ghost use Rattle.route_installer.specs.Installing.{begin, route_to};
-ghost use Rattle.route_feed.specs.InnerLines.{HaveNoHostBits};
+ghost use Rattle.route_feed.specs.Lines.{HaveNoHostBits};
 ghost use Rattle.route_installer.specs.InnerInstalling.{Has, Replaces, TakesNote, batch_bytes};
 ghost use Rattle.route_feed.specs.InnerWaiting.{changes_of, waiting_change};
 ghost use Rattle.route_lines.specs.declared.reply.Closing.{Closing};

@@ -40,7 +40,7 @@ impl<W: Write> Sink<W> for Installer {
 /// address changes its hop at most once (`laws::installed`).
 ///
 /// Bytes after the last line end are ignored. If the reader's or the writer's type doesn't specify its bytes, as that of a file, the run
-/// does the same, but nothing is proved about these bytes.
+/// does the same, but nothing is proved about these bytes. The counts of reader and writer must be below 2^63.
 ///
 /// # Errors
 /// The batches of all lines before the error were written and flushed. At `Write`, a beginning of the next batch may be written too, but

@@ -82,8 +82,26 @@ least_of_families h L N gl gn a b = record {
   fewest = λ M g. omega (arith, length-append L N, at_least h (length L) (length N) a b M g);
 }
 
+module _ (h : Address → Option ℕ) (N : List Route) (least : IsLeast h N) where
+  abbrev part : Family → List Route
+  part f = within (family_block f) N
+
+  gives : (f : Family) → GivesInside h (family_block f) None (part f)
+  gives = part_gives h N least.hops
+
+  parts : length (part Ipv4) + length (part Ipv6) ≤ length N
+  parts = few (family_block Ipv4) (family_block Ipv6) (whole_is_block Ipv4) (whole_is_block Ipv6) apart separate order N
+
+  -- no two tables of the families have fewer routes together
+  none_fewer : (L R : List Route) → GivesInside h (family_block Ipv4) None L → GivesInside h (family_block Ipv6) None R → length N ≤ length L + length R
+  none_fewer L R l r = omega (arith, least.fewest (L ++ R) (both_have h L R l r), length-append L R)
+
+  fewest_in : (f : Family) (L : List Route) → GivesInside h (family_block f) None L → length (part f) ≤ length L
+  fewest_in Ipv4 L l = omega (arith, parts, none_fewer L (part Ipv6) l (gives Ipv6))
+  fewest_in Ipv6 L l = omega (arith, parts, none_fewer (part Ipv4) L (gives Ipv4) l)
+
 pub least_is_fewest : LeastIsFewest
-least_is_fewest h N n m least a b =
-    let L = a.reached.0 in
-    let R = b.reached.0 in
-    omega (arith, at_least h n m a b N least.hops, least.fewest (L ++ R) (both_have h L R a.reached.1 b.reached.1), length-append L R, a.reached.2, b.reached.2)
+least_is_fewest h N least = (
+  λ f. record { reached = (part h N least f, gives h N least f, refl); least = fewest_in h N least f },
+  omega (arith, parts h N least, none_fewer h N least (part h N least Ipv4) (part h N least Ipv6) (gives h N least Ipv4) (gives h N least Ipv6)),
+)

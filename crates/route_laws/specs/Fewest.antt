@@ -1,11 +1,11 @@
 -- The fewest routes inside a block.
 use Rattle.std.specs.Prelude.{◌≡◌, ◌≢◌, ◌^◌, ◌<◌, ◌≤◌, ◌+◌, ◌⊎◌, ◌↔◌, ℕ, List, Option, Some, None, All, IfSome, length}
-use Rattle.ipnet_addr.specs.Addresses.{Ipv4, Ipv6, Address, IsAddress, width}
+use Rattle.ipnet_addr.specs.Addresses.{Family, Ipv4, Ipv6, Address, IsAddress, width}
 use Rattle.ipnet_blocks.specs.Blocks.{Block, IsBlock, HasAddress, IsInside, family_block, first_of, host, left, right}
 use Rattle.ipnet_blocks.specs.Halves.{IsLesser}
 use Rattle.route_choices.specs.Hops.{number_of}
 use Rattle.route_laws.specs.LeastTables.{HasHops, IsLeast}
-use Rattle.route_laws.specs.Tables.{Route, IsTable, hop_at, match_of}
+use Rattle.route_laws.specs.Tables.{Route, IsTable, hop_at, match_of, routes_inside}
 
 -- the hop of a match, or s if there is none
 abbrev pub inherited : Option ℕ → Option Route → Option ℕ
@@ -51,7 +51,8 @@ FewestByHalves = (h : Address → Option ℕ) → AreHops h → (b : Block) → 
     ((k : Option ℕ) → IsFewest h (left b) k (f k)) → ((k : Option ℕ) → IsFewest h (right b) k (g k)) →
     (s : Option ℕ) (n : ℕ) → IsFewest h b s n ↔ IsLesser f g s n
 
--- a least table has the fewest routes of all IPv4 addresses and those of all IPv6 addresses, which inherit nothing
+-- a least table has in each family the fewest routes that all addresses need which inherit nothing, and no others
 abbrev pub LeastIsFewest : Type 0
-LeastIsFewest = (h : Address → Option ℕ) (N : List Route) (n m : ℕ) → IsLeast h N →
-    IsFewest h (family_block Ipv4) None n → IsFewest h (family_block Ipv6) None m → length N ≡ n + m
+LeastIsFewest = (h : Address → Option ℕ) (N : List Route) → IsLeast h N →
+    ((f : Family) → IsFewest h (family_block f) None (length (routes_inside N (family_block f))))
+    × (length N ≡ length (routes_inside N (family_block Ipv4)) + length (routes_inside N (family_block Ipv6)))

@@ -97,8 +97,8 @@ pub fn one_route()
 {}
 
 /// The best routes of a table are a table of routes. After an `add`, it has the best of the network's new choices. After a `del`, it has
-/// the best of the choices that are left, or no route of the network if none is left. After an `overwrite`, one route replaces
-/// those inside.
+/// the best of the choices that are left, or no route of the network if none is left. A `del` of a choice that isn't the best changes
+/// nothing here. After an `overwrite`, one route replaces those inside. The match of a stored network is its own best route.
 pub fn best_routes()
     ensures table { RoutesAreTable }
     ensures add { RoutesOfAdd }
@@ -108,8 +108,9 @@ pub fn best_routes()
     ensures matches { MatchOfChoices }
 {}
 
-/// A change of a table makes a table, with the same choices of every other network. Tables with equal choices are equal. A `del` right
-/// after an `add` of a new network restores the table. A `del` of each choice of a network removes the network.
+/// A change of a table makes a table, with the new choices of its network and the same of every other. Tables with equal choices are
+/// equal. A `del` of a hop that isn't stored changes nothing. A `del` right after an `add` of a new network, with the same hop, restores
+/// the table. A `del` of each choice of a network removes the network.
 pub fn networks()
     ensures stays { StaysStored }
     ensures after { ChoicesAfter }
@@ -127,9 +128,9 @@ pub fn changed_networks()
 {}
 
 /// The fewest routes inside a block that give each of its addresses a given hop, if the block inherits a hop or none from the routes
-/// outside. For a block of one address, the hop decides. For any other block, it follows from what the halves need. A least table has as
-/// many routes as all IPv4 addresses and all IPv6 addresses need if they inherit nothing. The hops of a table are valid hop
-/// numbers, as `host` and `halves` require, and so are the hops that some table gives.
+/// outside. For a block of one address, the hop decides. For any other block, it follows from what the halves need. In each family, a
+/// least table has as many routes as all addresses need if they inherit nothing. The hops of a table are valid hop numbers, as `host` and
+/// `halves` require, and so are the hops that some table gives.
 pub fn fewest()
     ensures host { FewestOfHost }
     ensures halves { FewestByHalves }

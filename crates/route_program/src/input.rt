@@ -13,9 +13,9 @@ use std::io::Read;
 /// The most bytes that are kept for the next read.
 const KEPT: usize = 1 << 16;
 
-/// A reader that returns all lines of a piece but the last, and returns this last line, with the bytes after it, at the next read.
-/// If the kept bytes end a line, `more` is set. While bytes are kept, no call reads the device, so none waits for it. Errors of the
-/// device are passed on, and each call reads the device at most once.
+/// A reader that returns all lines of a piece but the last, and returns this last line, with the bytes after it, at the next read. It
+/// returns a piece with one line at once. If the kept bytes end a line, `more` is set. While bytes are kept, no call reads the device, so
+/// none waits for it. Errors of the device are passed on, and each call reads the device at most once.
 #[derive(Drop)]
 pub struct Input<'a, R> {
     device: Counted<R>,
@@ -25,7 +25,7 @@ pub struct Input<'a, R> {
 }
 
 impl<'a, R> Input<'a, R> {
-    /// Makes the input of a device; no bytes are kept, and nothing is counted yet.
+    /// Makes the input of a device; no bytes are kept, and nothing is counted yet. `more` is the one that the output reads.
     pub fn new(device: R, more: &'a Cell<bool>) -> Input<'a, R>
         ensures device { result.device.device ≡ device }
         ensures counts { (result.device.reads ≡ 0) × (result.device.faults ≡ 0) }

@@ -11,7 +11,7 @@ use std::cell::Cell;
 use std::io;
 use std::io::{BufWriter, Write};
 
-/// The most bytes of a reply that are gathered before they are written.
+/// The most bytes of output that are gathered before they are written.
 pub const OUTPUT_BUFFER: usize = 1 << 16;
 
 /// A writer that is flushed only if no more lines are available, as `more` says. Errors of the device are passed on.
@@ -22,7 +22,7 @@ pub struct Output<'a, W: Drop> {
 }
 
 impl<'a, W: Drop> Output<'a, W> {
-    /// Makes the output of a device; nothing is counted yet.
+    /// Makes the output of a device; nothing is counted yet. `more` is the one that the input sets.
     pub fn new(device: W, more: &'a Cell<bool>) -> Output<'a, W>
         ensures device { result.device.device ≡ device }
         ensures counts { (result.device.reads ≡ 0) × (result.device.faults ≡ 0) }
@@ -67,7 +67,7 @@ impl<'a, W: Write + Drop> Write for Output<'a, W> {
 /// Writes out the gathered bytes, and returns the output.
 ///
 /// # Errors
-/// `Write` if `write` fails or writes nothing.
+/// `Write` if `write` fails or writes nothing. Then the output is dropped.
 pub fn write_out<W: Write + Drop>(buffered: BufWriter<W>) -> Result<W, RunError>
     ensures written { IfOk result (λ w. Keeps (writer_contents W.contents buffered) (W.contents w)) }
     ensures fault { IfErr result (λ e. e ≡ RunError.Write) }

@@ -16,7 +16,7 @@ use std::io::{Read, Write};
 /// The most reads of a run.
 const MOST_READS: u64 = 1 << 62;
 
-/// The number of bytes that one read asks for.
+/// The size of the buffer that the runs of `route_feed` and `route_installer` allocate for reads.
 pub const INPUT_BUFFER: usize = 1 << 16;
 
 /// A receiver of the lines of an input, one by one, which may write while it receives.
@@ -107,8 +107,8 @@ fn take_piece<W: Write, S: Sink<W>>(
     Ok(())
 }
 
-/// Reads to the end, and passes each line to the sink. Returns whether there are bytes after the last line end. `buf` must not be
-/// empty, and the reader's counts must be below 2^63.
+/// Reads to the end, and passes each line to the sink, which must be able to take one. Returns whether there are bytes after the last line
+/// end; the sink doesn't receive these. `buf` must not be empty, and the reader's counts must be below 2^63.
 ///
 /// # Errors
 /// - `Read` if `read` fails, or if 2^62 calls of `read` don't reach the end. The sink has received each complete line that was read.

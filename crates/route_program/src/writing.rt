@@ -8,7 +8,7 @@ use crate::error::RunError;
 use route_lines::Closing;
 use std::io::Write;
 
-/// Writes the piece.
+/// Writes the piece. The writer must have counted fewer than 2^64 - 1 faults.
 ///
 /// # Errors
 /// Only `Write`: if `write` fails or writes nothing. Then only a beginning of the piece was written.
@@ -31,7 +31,7 @@ pub fn write_piece<W: Write>(writer: &mut Counted<W>, piece: &[u8]) -> Result<()
     Ok(())
 }
 
-/// Flushes the writer. A flush counts if bytes were written since the last one.
+/// Flushes the writer. A flush counts if bytes were written since the last one. The writer must have counted fewer than 2^64 - 1 faults.
 ///
 /// # Errors
 /// Only `Write`: if `flush` fails.
@@ -42,10 +42,10 @@ pub fn flush<W: Write>(writer: &mut Counted<W>) -> Result<(), RunError>
     writer.flush().map_err(|_| RunError::Write)
 }
 
-/// Writes the line that closes a reply, and flushes.
+/// Writes the line that closes a reply, and flushes. The writer must have counted fewer than 2^64 - 1 faults.
 ///
 /// # Errors
-/// Only `Write`: if `write` or `flush` fails, or if `write` writes nothing. Then only a beginning of the line was written.
+/// Only `Write`: if `write` or `flush` fails, or if `write` writes nothing. Then a beginning of the line, or all of it, was written.
 pub fn close<W: Write>(writer: &mut Counted<W>, closing: Closing) -> Result<(), RunError>
     requires { CanCount writer.old }
     ensures { Closes W.contents 1 writer.old writer.new result (closing_line closing) }

@@ -23,6 +23,10 @@ pub on_err : {T E : Type 0} (P Q : Type 0) (r : Result T E) → (P → Q) → On
 on_err P Q (Ok v) f h = h
 on_err P Q (Err e) f h = f h
 
+pub when_err : {T E P : Type 0} (r : Result T E) → P → OnErr r P
+when_err (Ok v) p = tt
+when_err (Err e) p = p
+
 -- an answer that is there if a test passed
 pub some_if : {T : Type 0} (b : Bool) (v : T) (o : Option T) → o ≡ then_some b v → is_some o ≡ b
 some_if true v o e = ap is_some e

@@ -1,5 +1,5 @@
 -- A table whose addresses of one network got one hop, by what the routes outside hand down.
-use Rattle.std.proofs.Common.{◌≡◌, ℕ, ◌<◌, ◌==◌, true, false, not, cond, List, Option, Some, None, refl, sym, ap, ◌∙◌}
+use Rattle.std.proofs.Common.{◌≡◌, ◌≢◌, ℕ, ◌<◌, ◌==◌, true, false, not, cond, List, Option, Some, None, refl, sym, ap, ◌∙◌}
 use Rattle.std.specs.Option.{option_eq, option_map}
 use Rattle.ipnet_blocks.specs.Blocks.{Block, IsBlock, is_inside, parent}
 use Rattle.ipnet.specs.IpNets.{block, network_at, parts}
@@ -12,8 +12,10 @@ use Rattle.route_laws.specs.Networks.{Stored, best_route, networks_outside, rout
 use Rattle.route_laws.specs.Overwritten.{overwritten, without_inside}
 use Rattle.route_laws.specs.Painted.{painted}
 use Rattle.route_laws.specs.Tables.{Route, IsTable, item_of, match_number, match_of}
+use Rattle.route_laws.proofs.Changes.{same_itself}
 use Rattle.route_laws.proofs.Inherited.{inherited_from_parent}
 use Rattle.route_laws.proofs.NetworksAt.{of_network_at}
+use Rattle.route_laws.proofs.Ordered.{not_cases}
 
 -- the number at a match, by the item of the match
 pub number_of_none : (m : Option Route) → None ≡ option_map item_of m → match_number m ≡ None
@@ -29,6 +31,9 @@ tests_same None None = refl
 tests_same None (Some k) = refl
 tests_same (Some j) None = refl
 tests_same (Some j) (Some k) = refl
+
+pub differ_from_test : (o p : Option ℕ) → same_number o p ≡ false → o ≢ p
+differ_from_test o p e same = not_cases (same_number o p) (ap not e) (ap (same_number o) (sym same) ∙ same_itself o)
 
 -- whether a hop is handed down to a block, by what is found of it
 pub same_test : (M : List Route) (d b : Block) (h : Hop) (o p : Option ℕ) → d ≡ b → o ≡ match_number (match_of (without_inside M d) d) → p ≡ number_of h

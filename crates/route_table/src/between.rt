@@ -21,10 +21,10 @@ use route_choices::{DEFAULT_PREFERENCE, Hop};
 use std::cmp::Ordering;
 use std::marker::Model;
 
-/// An operation on a table that is installed elsewhere, such as a kernel's.
+/// An operation on a table: one that is installed elsewhere, such as a kernel's, or a `HopTable` (`HopTable::carry_out`).
 #[derive(Clone, Copy, Debug, PartialEq, Eq)]
 pub enum Operation {
-    /// Adds a route, and replaces the network's old route if it has one.
+    /// Adds a route, in a `HopTable` with preference 100, and replaces the network's old route if it has one.
     Install { net: IpNet, hop: Hop },
     /// Removes the route of a network.
     Remove { net: IpNet },

@@ -4,6 +4,7 @@ ghost use Rattle.ipnet_blocks.specs.Blocks.{IsBlock};
 ghost use Rattle.ipnet.specs.IpNets.{block};
 ghost use Rattle.prefix_trie.specs.declared.refused.Refused.TheVariants.{Memory};
 ghost use Rattle.route_choices.specs.Choices.{default_preference};
+ghost use Rattle.route_choices.specs.Hops.{IsHop};
 ghost use Rattle.route_laws.specs.LeastTables.{routes_for};
 ghost use Rattle.route_laws.specs.Networks.{IsStoredTable, choices_at, routes_of};
 ghost use Rattle.route_laws.specs.Tables.{IsTable, route_of, with_route, without_block};
@@ -16,8 +17,8 @@ use prefix_trie::Refused;
 use route_choices::{DEFAULT_PREFERENCE, Hop};
 use std::alloc::{AllocError, Global};
 
-/// A table with one hop for each stored network, of both families. A network takes less than a quarter of the memory that it takes in a
-/// `RouteTable`, which has room for eight routes.
+/// A table with one hop for each stored network, of both families. It takes less memory than a `RouteTable`, which has room for eight
+/// routes at each network.
 ///
 /// Contracts see the same list as for a `RouteTable`; each network has one route. Only `from_routes`, `least`, `into_least` and `updates`
 /// allocate, and `install`, `overwrite`, `paint` and `carry_out` where they store a new network. A table is `Send` and `Sync`.
@@ -81,8 +82,9 @@ impl HopTable {
         // On success the route is stored with preference 100, in place of any other of its network.
         ensures routes { OnOk result (routes_of self.new ≡ with_route (routes_of self.old) (route_of net hop default_preference)) }
 
-        // Before and after, the stored networks ascend, each with its routes, best first.
+        // Before and after, the stored networks ascend, each with its routes, best first; the network and the hop are valid.
         ensures tables { IsStoredTable self.old × IsStoredTable self.new }
+        ensures change { IsBlock (block net) × IsHop hop }
 
         // It fails only for lack of memory, at a network that isn't stored, and the table is unchanged.
         ensures memory { IfErr result (λ e. e ≡ Memory) }

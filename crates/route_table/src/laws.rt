@@ -21,14 +21,14 @@ pub fn add_refusals()
     ensures made { (a : AnyRefused) → ⟦<AddRefused as Clone>⟧.is_infallible a }
 {}
 
-/// `==` holds of one operation alone; a clone of an operation is the same one, and cloning never fails.
+/// `==` holds exactly for equal operations. A clone of an operation equals it, and cloning never fails.
 pub fn operations()
     ensures equality { (a b : AnyOperation) → IsTrue (⟦<Operation as PartialEq>⟧.eq a b) ↔ (a ≡ b) }
     ensures clones { (a b : AnyOperation) → ⟦<Operation as Clone>⟧.is_clone a b → b ≡ a }
     ensures made { (a : AnyOperation) → ⟦<Operation as Clone>⟧.is_infallible a }
 {}
 
-/// `==` holds of one run of a flat list alone; a clone of a run is the same one, and cloning never fails.
+/// `==` holds exactly for equal runs of a flat list. A clone of a run equals it, and cloning never fails.
 pub fn hop_runs()
     ensures equality { (a b : AnyRun) → IsTrue (⟦<HopRun as PartialEq>⟧.eq a b) ↔ (a ≡ b) }
     ensures clones { (a b : AnyRun) → ⟦<HopRun as Clone>⟧.is_clone a b → b ≡ a }

@@ -182,7 +182,7 @@ impl HopTable {
     /// Returns the routes of a smallest equivalent table, as `least` does. The memory of this table is freed on the way.
     ///
     /// # Errors
-    /// `Memory` if an allocation fails, for the routes or for the computation.
+    /// `Memory` if an allocation fails, for the routes or for the computation. Then the table is lost.
     ///
     /// # Examples
     /// ```rust

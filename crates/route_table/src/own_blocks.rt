@@ -29,11 +29,10 @@ fn push_blocks(networks: &mut Vec<IpNet>, blocks: Governed<'_>) -> Result<(), Al
 
 impl RouteTable {
     /// Returns the maximal blocks of the addresses with this hop, ascending, as networks without host bits. No list of blocks with these
-    /// addresses is shorter. They are the blocks of `flat` with this number. But they are computed from the addresses that the networks
-    /// with this hop govern.
+    /// addresses is shorter. They are the blocks of `flat` with this number.
     ///
     /// # Errors
-    /// `Memory` if an allocation for the list fails.
+    /// `Memory` if an allocation fails, for the list or for the computation.
     ///
     /// # Examples
     /// If `half`, 10.0.0.0/9, is the only block with the hop 2:

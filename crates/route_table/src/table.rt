@@ -1,5 +1,5 @@
 //! The table.
-ghost use Rattle.std.specs.Prelude.{◌≡◌, ◌<◌, ◌≤◌, ◌+◌, ◌/◌, [], ◌∷◌, ◌++◌, All, IfOk, IfErr, IfSome, IsTrue, OnOk, OnErr, ◌↔◌, false, is_some, length, sum_by};
+ghost use Rattle.std.specs.Prelude.{◌≡◌, ◌<◌, ◌≤◌, ◌+◌, ◌/◌, [], ◌∷◌, ◌++◌, None, All, IfOk, IfErr, IfSome, IsTrue, OnOk, OnErr, ◌↔◌, false, is_some, length, sum_by};
 ghost use Rattle.std.specs.Option.{option_map};
 ghost use Rattle.ipnet_addr.specs.Addresses.{Ipv4, Ipv6};
 ghost use Rattle.ipnet_blocks.specs.Blocks.{IsBlock, bit_string};
@@ -81,8 +81,8 @@ impl RouteTable {
         Table::empty(alloc)
     }
 
-    /// Adds a route to the network. If the network has this hop already, its preference changes. Returns the old and the new hop number
-    /// of the addresses that the network governs: those at its longest match before and after. If the two differ, exactly these
+    /// Adds a route to the network. If the network has this hop already, its preference changes. Returns the hop number
+    /// of its longest match before and after: the old and the new hop of the addresses that it governs. If the two differ, exactly these
     /// addresses changed their hop, and `governed` lists them; else no address did.
     ///
     /// # Errors
@@ -167,8 +167,9 @@ impl RouteTable {
         self.add_choice(cleared(&net), hop, pref)
     }
 
-    /// Removes the route of this hop from the network, if it has one, and removes the network with its last route. Returns the old and the
-    /// new hop number of the addresses that the network governs, as `add` does. Does not allocate.
+    /// Removes the route of this hop from the network, and removes the network with its last route. Returns the old and the new hop number
+    /// of the addresses that the network governs, as `add` does. If the network lacks this hop, it returns `None` and changes nothing. Does
+    /// not allocate.
     ///
     /// # Examples
     /// If 10.0.0.0/8 has the hop 1 and `half`, 10.0.0.0/9, the hop 2:
@@ -182,6 +183,7 @@ impl RouteTable {
         ensures networks { self.new ≡ without_choice self.old (block net.now) hop }
         ensures tables { IsStoredTable self.old × IsStoredTable self.new }
         ensures hops { IfSome result (λ r. (r.0 ≡ match_number (match_of (routes_of self.old) (block net.now))) × (r.1 ≡ match_number (match_of (routes_of self.new) (block net.now)))) }
+        ensures unchanged { result ≡ None → self.new ≡ self.old }
     {
         self.remove_choice(&cleared(net), hop)
     }
@@ -205,8 +207,8 @@ impl RouteTable {
         }
     }
 
-    /// Returns the result of `get`, and the number of trie nodes that the search visited. They are the root, and one for each bit string
-    /// of positive length divisible by five that is a prefix of both the network and a stored one.
+    /// Returns the result of `get`, and the number of trie nodes on the path of the search. They are the root, and one for each bit string
+    /// of positive length divisible by five that is a prefix of both the network and a stored one. Levels that the trie skips count as nodes.
     pub fn get_visits(&self, net: &IpNet) -> (Option<(IpNet, Hop, u16)>, u32)
         ensures found { result.0 ≡ option_map item_of (match_of (routes_of self.now) (block net.now)) }
         ensures visits { result.1 ≡ visit_count (map_of (family net.now) self.now) (bit_string (block net.now)) }
@@ -271,7 +273,7 @@ impl RouteTable {
     }
 
     /// Returns the number of trie nodes of each family: the root, and one for each distinct bit string of positive length divisible by
-    /// five that is a prefix of a stored network.
+    /// five that is a prefix of a stored network. Levels that the trie skips count as nodes.
     pub fn node_counts(&self) -> (usize, usize)
         ensures { result ≡ (nodes (map_of Ipv4 self.now), nodes (map_of Ipv6 self.now)) }
     {
@@ -352,7 +354,7 @@ impl RouteTable {
 
 impl<const CAPACITY: usize> Table<CAPACITY> {
     /// Returns the longest match: the longest stored network that contains this one, possibly itself, with its best hop and the
-    /// preference of this hop.
+    /// preference of this hop; or `None` if no stored network contains this one. The returned network has no host bits. Does not allocate.
     ///
     /// # Examples
     /// If 10.0.0.0/8 has the hop 1 and `half`, 10.0.0.0/9, the hop 2:

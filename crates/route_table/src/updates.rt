@@ -16,7 +16,7 @@ ghost use Rattle.route_laws.specs.Tables.{IsTable};
 ghost use Rattle.route_table.specs.InnerLeast.{entries_of};
 ghost use Rattle.route_table.specs.InnerFamilyTables.{IsFamilyTable, block_at};
 ghost use Rattle.route_table.specs.InnerUpdates.{AddsInstalls, AddsRemoves, AreEditsFor, AreWithin, GivesPath, MakeBoth, operations_of, overwritten_all, routes_in};
-ghost use Rattle.route_table.specs.Operations.{network_of, operation_of};
+ghost use Rattle.route_table.specs.Operations.{EndsAtInstall, IsNewInstall, network_of, operation_of};
 
 use crate::between::Operation;
 use crate::family::FamilyNet;
@@ -214,7 +214,7 @@ fn operations(alloc: Global, v4: &[Edit], v6: &[Edit]) -> Result<Vec<Operation>,
 impl HopTable {
     /// Returns the fewest operations that carry out the changes. If they are carried out on this table, each address gets the hop of the last
     /// change that contains it, and all others keep their hop. No fewer operations do this. All installs come before all removes, and on the
-    /// way each address changes its hop at most once (`laws::nearest` of `route_laws`). The table stays as it is: `carry_out` changes it.
+    /// way each address changes its hop at most once (`route_laws::laws::nearest`). The table stays as it is: `carry_out` changes it.
     ///
     /// The networks of the operations have no host bits. If there are several such sequences, any of them may be returned.
     ///
@@ -233,6 +233,7 @@ impl HopTable {
         ensures updates { IfOk result (λ os. AreUpdates (routes_of self.now) (routes_for changes.now) (map operation_of os.items)) }
         ensures truncated { IfOk result (λ os. All (λ o. IsTruncated (family (network_of o)) (parts (network_of o))) os.items) }
         ensures memory { IfErr result (λ e. e ≡ Memory) }
+        ensures changes { OnOk result (AreChanges (routes_for changes.now)) }
         ensures table { IsTable (routes_of self.now) }
     {
         let alloc = self.alloc;
@@ -283,7 +284,7 @@ impl HopTable {
     ///
     /// # Errors
     /// `Memory` if a network is to be installed that isn't stored, and an allocation for it fails. All operations before this one are
-    /// carried out, and none from it on.
+    /// carried out, and none from it on. If the operations are those of `updates`, each address has its old hop or its new one.
     ///
     /// # Examples
     /// With the operations of `updates`:
@@ -294,8 +295,10 @@ impl HopTable {
     /// ```
     pub fn carry_out(&mut self, operations: &[Operation]) -> Result<(), Refused>
         ensures routes { OnOk result (routes_of self.new ≡ after_all (routes_of self.old) (map operation_of operations.now)) }
+
+        // It fails only for lack of memory, at the first install of a new network that an allocation fails for.
         ensures memory { IfErr result (λ e. e ≡ Memory) }
-        ensures first { OnErr result ((n : ℕ) × (n < length operations.now) × (routes_of self.new ≡ after_all (routes_of self.old) (map operation_of (take n operations.now)))) }
+        ensures first { OnErr result (EndsAtInstall self.old operations.now self.new) }
     {
         for operation in operations {
             self.carry_one(*operation)?;
@@ -308,6 +311,7 @@ impl HopTable {
         ensures routes { OnOk result (routes_of self.new ≡ after (routes_of self.old) (operation_of operation)) }
         ensures memory { IfErr result (λ e. e ≡ Memory) }
         ensures unchanged { OnErr result (self.new ≡ self.old) }
+        ensures absent { OnErr result (IsNewInstall self.old operation) }
     {
         match operation {
             Operation::Install { net, hop } => self.install(net, hop),

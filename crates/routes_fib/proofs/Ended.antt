@@ -24,7 +24,7 @@ at_wanting remaining contents from to old new Line ends is = absurd (cc)
 
 pub at_note : {R W T : Type 0} (remaining : R → Option (List ℕ)) (contents : W → Option (List ℕ)) (from to : Counted R) (old new : Counted W) (e : RunError)
     → InstallEnds remaining contents from to old new (Err e) → IsErrOf {T = T} (Err e) Write → MeetsNote remaining from to ⊎ ReadsNotes remaining from to
-at_note remaining contents from to old new Write ends is = let m = ends.0 in inl (m.meets, m.last, m.are_too)
+at_note remaining contents from to old new Write ends is = let m = ends.0 in inl (m.meets, m.last, m.are_too, m.some)
 at_note remaining contents from to old new Memory ends is = absurd (cc)
 at_note remaining contents from to old new Read ends is = absurd (cc)
 at_note remaining contents from to old new Line ends is = absurd (cc)

@@ -1,5 +1,5 @@
 //! The values and the children of a node, in as few lists as they need.
-ghost use Rattle.std.specs.Prelude.{◌≡◌, ◌<◌, ◌≤◌, ◌+◌, ⊤, [], ◌∷◌, length, insert, remove, slice_index_or, is_ok, if◌then◌else◌, IfOk, IfErr, OnErr, OnOk};
+ghost use Rattle.std.specs.Prelude.{◌≡◌, ◌<◌, ◌≤◌, ◌+◌, ⊤, [], ◌∷◌, length, insert, remove, slice_index_or, is_ok, if◌then◌else◌, IfOk, IfErr, OnErr, OnOk, IsOk};
 ghost use Rattle.std.specs.Borrow.{sem};
 ghost use Rattle.short_vec.specs.Lists.{short_items, short_len, short_capacity};
 ghost use Rattle.shape.specs.Shapes.{shape_values, shape_children, items_of, HasRoom};
@@ -180,13 +180,14 @@ impl<C: Drop, T: Drop> Shape<C, T> {
     /// Makes sure that there is room for one more child: if there is none, makes room for at least `more`.
     ///
     /// # Errors
-    /// `AllocError` if an allocation fails. The values and the children stay in any case.
+    /// `AllocError` if there is no room and an allocation fails. The values and the children stay in any case.
     #[inline]
     pub fn reserve_child(&mut self, more: usize) -> Result<(), AllocError>
         requires { 0 < more }
         ensures values { shape_values self.new ≡ shape_values self.old }
         ensures children { shape_children self.new ≡ shape_children self.old }
         ensures ok { OnOk result (HasRoom self.new) }
+        ensures succeeds { HasRoom self.old → IsOk result }
     {
         match self {
             Shape::Children(children) => reserve(children, more, LARGE),

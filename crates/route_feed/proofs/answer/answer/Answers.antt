@@ -1,6 +1,6 @@
 use Rattle.std.proofs.Common.{◌≡◌, ◌∙◌, sym, subst, ap, refl, Some, None, false}
 use Rattle.route_lines.specs.Lines.{as_line}
-use Rattle.route_feed.specs.InnerLines.{command_in}
+use Rattle.route_feed.specs.Lines.{command_in}
 use Rattle.route_feed.specs.LeadsLine.{Answers}
 use Rattle.route_feed.proofs.ReadLines.{of_commands, read_is, read_none}
 use Rattle.route_feed.proofs.answer.answer.Goals as goal

@@ -1,5 +1,5 @@
 use Rattle.std.proofs.Common.{ap, ◌∙◌, subst}
-use Rattle.route_feed.specs.InnerLines.{command_in}
+use Rattle.route_feed.specs.Lines.{command_in}
 use Rattle.route_feed.specs.LeadsLine.{Answers}
 use Rattle.route_feed.proofs.ReadLines.{of_commands, piece_spells}
 use Rattle.route_feed.proofs.answer.lead_line.Goals as goal

@@ -2,7 +2,7 @@ use Rattle.std.proofs.Common.{◌++◌, ◌∷◌, [], ap, refl, ◌∙◌}
 use Rattle.std.proofs.lemmas.Result.{err_from_is_err_and}
 use Rattle.route_lines.specs.declared.reply.Closing.TheVariants.{Done}
 use Rattle.route_lines.specs.declared.reply.Reply.TheVariants.{Close}
-use Rattle.route_feed.specs.InnerLines.{reply_line}
+use Rattle.route_feed.specs.Lines.{reply_line}
 use Rattle.route_feed.specs.Replies.{printed}
 use Rattle.route_program.proofs.WriteLines.{Told-nil, Told-more, Told-torn, Told-last}
 use Rattle.route_feed.proofs.writing.reply.Goals as goal

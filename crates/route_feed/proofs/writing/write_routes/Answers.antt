@@ -6,7 +6,7 @@ use Rattle.ipnet.specs.declared.ip_net.IpNet.{IpNet}
 use Rattle.ipnet_blocks.specs.Networks.{IsTruncated}
 use Rattle.route_choices.specs.declared.hop.Hop.{Hop}
 use Rattle.route_table.proofs.BetweenSteps.{network_is}
-use Rattle.route_feed.specs.InnerLines.{HaveNoHostBits}
+use Rattle.route_feed.specs.Lines.{HaveNoHostBits}
 use Rattle.route_feed.proofs.WriteRoutes.{add_bytes, next_add}
 use Rattle.route_program.proofs.WriteLines.{Told-all, Told-more, Told-torn}
 use Rattle.route_program.proofs.Written.{Delivers-after}

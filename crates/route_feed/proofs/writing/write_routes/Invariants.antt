@@ -1,4 +1,4 @@
-use Rattle.route_feed.specs.InnerLines.{HaveNoHostBits}
+use Rattle.route_feed.specs.Lines.{HaveNoHostBits}
 use Rattle.route_feed.proofs.WriteRoutes.{add_bytes}
 use Rattle.route_program.proofs.WriteLines.{Told}
 use Rattle.route_feed.proofs.writing.write_routes.Given as goal

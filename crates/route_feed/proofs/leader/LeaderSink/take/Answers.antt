@@ -1,5 +1,5 @@
 use Rattle.route_lines.specs.Lines.{as_line}
-use Rattle.route_feed.specs.InnerLines.{command_in}
+use Rattle.route_feed.specs.Lines.{command_in}
 use Rattle.route_feed.proofs.LeadThen.{answer_counts}
 use Rattle.route_feed.proofs.leader.LeaderSink.take.Goals as goal
 

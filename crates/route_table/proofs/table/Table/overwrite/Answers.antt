@@ -1,5 +1,5 @@
 use Rattle.std.proofs.Common.{rules, ◌≡◌, ◌∙◌, List, [], ◌∷◌, sym, ap, arith, subst}
-use Rattle.std.specs.Prelude.{Result, Ok, Err, OnErr, if◌then◌else◌}
+use Rattle.std.specs.Prelude.{if◌then◌else◌}
 use Rattle.ipnet_addr.specs.Addresses.{Address, IsAddress}
 use Rattle.ipnet_blocks.specs.Blocks.{Block, IsBlock, has_address}
 use Rattle.ipnet_blocks.proofs.Search.{left_is_block, right_is_block}
@@ -12,11 +12,8 @@ use Rattle.route_laws.specs.Networks.{Stored, IsStoredTable, choices_at, overwri
 use Rattle.route_laws.specs.Tables.{hop_at, route_of}
 use Rattle.route_laws.proofs.Networks.{routes_are_table}
 use Rattle.route_laws.proofs.Overwritten.{leaf_overwritten, networks_placed, over_hops, room_inside, halves_overwritten, routes_overwritten}
+use Rattle.route_table.proofs.Outcomes.{when_err}
 use Rattle.route_table.proofs.table.Table.overwrite.Goals as goal
-
-always : {T E P : Type 0} (r : Result T E) → P → OnErr r P
-always (Ok x) p = tt
-always (Err e) p = p
 
 -- the hops of a table that was overwritten
 over : (T U : List Stored) (net : IpNet) (hop : Hop) → U ≡ overwritten_by T (block net) (record { hop = hop; pref = default_preference }) → IsStoredTable T → IsBlock (block net) → IsHop hop
@@ -27,7 +24,7 @@ over T U net hop is table ok in_range x a =
     ∙ over_hops _ (routes_are_table _ table) (route_of net hop default_preference) ok in_range x a
 
 pub returns-in_err-is_leaf-clause-absent : goal.returns-in_err-is_leaf-clause-absent
-returns-in_err-is_leaf-clause-absent g c = always c.from_residual.result (ap (choices_at c.args.self.now) (sym c.cleared-net.ensures.block) ∙ c.in_err-is_leaf.ensures.absent)
+returns-in_err-is_leaf-clause-absent g c = when_err c.from_residual.result (ap (choices_at c.args.self.now) (sym c.cleared-net.ensures.block) ∙ c.in_err-is_leaf.ensures.absent)
 
 pub halves-requires : goal.halves-requires
 halves-requires g c = omega (arith, room_inside _ c.in_ok-is_leaf.ensures.tables.1 (block c.cleared-net.result) c.cleared-net.ensures.is_block _ c.in_ok-is_leaf.ensures.leaf c.if-not-is_leaf.true)

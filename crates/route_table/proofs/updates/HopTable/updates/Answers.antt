@@ -21,3 +21,6 @@ returns-clause-updates c =
     (are_updates (routes_for c.args.changes.now) c.as_slice.result.now c.as_slice-2.result.now both.installed both.changed edits.changes refl made.ipv4_hops made.ipv6_hops
     (subst (MakeNearest (width Ipv4) (entries_of both.changed_v4) (entries_of both.installed_v4)) (sym c.as_slice.ensures.value) both.ipv4)
     (subst (MakeNearest (width Ipv6) (entries_of both.changed_v6) (entries_of both.installed_v6)) (sym c.as_slice-2.ensures.value) both.ipv6))
+
+pub returns-clause-changes : goal.returns-clause-changes
+returns-clause-changes c = c.in_ok-v4.ensures.edits.changes
