@@ -13,7 +13,7 @@ ghost use Rattle.route_laws.specs.Painted.{painted_all};
 ghost use Rattle.route_laws.specs.Tables.{hop_at, longer, match_of, item_of};
 
 use ipnet::IpNet;
-use route_table::laws::{best_routes, fewest, flat, held, nearest};
+use route_table::laws::{best_routes, fewest, flat, held, updates};
 use route_table::{AddRefused, DEFAULT_PREFERENCE, Hop, HopTable, Refused, RouteTable};
 
 /// Returns the result of `get` after an accepted `add`. If the new network contains the asked network, it is the longer of two routes:
@@ -64,7 +64,7 @@ pub fn updated(table: &mut HopTable, changes: &[(IpNet, Hop)]) -> Result<usize, 
     ensures { IfOk result (λ n. (os : List Operation) × (routes_of table.new ≡ after_all (routes_of table.old) os) × (n ≡ length os)
         × IsFewestTo (routes_of table.old) (hop_at (painted_all (routes_of table.old) (routes_for changes.now))) os × IsHitless (routes_of table.old) os) }
 {
-    nearest();
+    updates();
     let operations = table.updates(changes)?;
     table.carry_out(operations.as_slice())?;
     Ok(operations.len())

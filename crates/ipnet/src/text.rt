@@ -14,7 +14,7 @@ use std::str::FromStr;
 use std::{fmt, str};
 use thiserror::Error;
 
-/// The text spells no network.
+/// The text, bytes or JSON value that was read is no network.
 ///
 /// # Examples
 /// `shows` checks the displayed text:

@@ -359,7 +359,8 @@ impl<'a, P: Prefix, T> Entry<'a, P, T> {
         }
     }
 
-    /// Returns a mutable reference to the value if the key is stored.
+    /// Returns a mutable reference to the value if the key is stored. A write through it has no contract. If a proof needs one, match the
+    /// entry, and use `OccupiedEntry::get_mut`.
     ///
     /// # Examples
     /// At a stored key; `is_equal` checks that two values are equal:

@@ -78,7 +78,7 @@ impl<P: Prefix, T> PrefixMap<P, T> {
     }
 
     /// Returns the entries whose keys come after the prefix in the order of a walk. Keys inside the prefix come after it. If `inclusive`,
-    /// the prefix's own entry is the first.
+    /// the prefix's own entry, if it is stored, is the first.
     ///
     /// # Examples
     /// In a map with the value 1 at `wide`, 10.0.0.0/8, and the value 2 at `inner`, 10.1.0.0/16:

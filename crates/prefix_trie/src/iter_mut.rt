@@ -23,8 +23,8 @@ fn is_begun(path: &Path, key: &Path) -> bool
     path.len() <= key.len() && is_same(path, &Path::new(key.to_bits(), path.len()))
 }
 
-/// An iterator over mutable references to values, made by `iter_mut`, `iter_from_mut` and `children_mut`. All its keys are inside one
-/// bit string.
+/// Lends the values one at a time, made by `iter_mut`, `iter_from_mut` and `children_mut`. It is no `Iterator`: call its `next`. All its
+/// keys are inside one bit string.
 #[derive(Drop)]
 pub struct IterMut<'a, P: Prefix, T> {
     map: &'a mut PrefixMap<P, T>,
@@ -98,7 +98,8 @@ impl<P: Prefix, T> PrefixMap<P, T> {
         self.iter_mut()
     }
 
-    /// Returns mutable references to the values of the keys after a prefix, one at a time; its own value first if `inclusive`.
+    /// Returns mutable references to the values of the keys after a prefix, one at a time. If `inclusive`, the prefix's own value, if it is
+    /// stored, is the first.
     ///
     /// # Examples
     /// In a map with 10.0.0.0/8 as `first`, and the value 22 at `second`, 10.1.0.0/16; `lent_is` checks the lent value:

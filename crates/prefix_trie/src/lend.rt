@@ -55,8 +55,8 @@ impl<P: Prefix, T> PrefixMap<P, T> {
         (truncated(prefix, len), self.value_mut(&path))
     }
 
-    /// Returns the longest key that contains the prefix, possibly the prefix itself, and a mutable reference to its value. The contracts
-    /// of `match_mut` and `get_lpm_value_mut` say what a write through this reference changes.
+    /// Returns the longest key that contains the prefix, possibly the prefix itself, and a mutable reference to its value. A write
+    /// through this reference has no contract. If a proof needs one, use `match_mut` or `get_lpm_value_mut`.
     ///
     /// # Examples
     /// In a map with 10.0.0.0/8 and 10.1.0.0/16; `net` reads a network, and `is_text` compares one with a text:

@@ -109,7 +109,7 @@ impl<P: Prefix, T> PrefixMap<P, T> {
     }
 
     /// Returns the number of nodes, the root included. A tidy map has the root, and one node for each distinct prefix of a key whose
-    /// length is positive and divisible by five. Any other map has spare nodes too.
+    /// length is positive and divisible by five. Any other map has spare nodes too. Levels that the trie skips count as nodes.
     ///
     /// # Examples
     /// In a map with 10.0.0.0/8, and with the value 2 at `inner`, 10.1.0.0/16:
@@ -282,8 +282,8 @@ impl<P: Prefix, T> PrefixMap<P, T> {
         self.root.shortest(path_of(prefix)).is_some()
     }
 
-    /// Returns whether no other key is inside the prefix, and no spare node. The prefix need not be stored. Takes one search, and does not
-    /// allocate.
+    /// Returns whether nothing lies strictly inside the prefix: no key, and no spare node. The prefix need not be stored. Takes one search,
+    /// and does not allocate.
     ///
     /// # Examples
     /// In a map with just `wide`, 10.0.0.0/8, and `inner`, 10.1.0.0/16:
@@ -300,7 +300,8 @@ impl<P: Prefix, T> PrefixMap<P, T> {
     }
 
     /// Returns the result of `get_lpm`, and the number of nodes visited: the root, and each node on the path of the prefix. Each such node
-    /// belongs to a prefix of the path whose length is positive and divisible by five. In a tidy map this is also a prefix of a key.
+    /// belongs to a prefix of the path whose length is positive and divisible by five. In a tidy map this is also a prefix of a key. Levels
+    /// that the trie skips count as nodes.
     pub fn get_lpm_visits(&self, prefix: &P) -> (Option<(P, &T)>, u32)
         requires { IsTrue (P.fits prefix.now) }
         ensures found { MatchOption result.0 (NoBeginning self.now.entries (P.bits prefix.now)) (λ r. IsLongestKey P.fits P.bits P.of_bits self.now.entries (P.bits prefix.now) r.0 r.1.now) }

@@ -88,7 +88,7 @@ pub trait Prefix {
         ensures value { result ≡ length (bits self.now) }
         ensures within { IsTrue (fits self.now) → result ≤ Self.R.width };
 
-    /// Makes the prefix of the first `len` bits of a key.
+    /// Makes the prefix of the first `len` bits of a key. `len` must be at most the number of bits of a key.
     ///
     /// # Examples
     /// `prefix` is `(0x0a01_0203_u32, 16)`, for 10.1.2.3/16:
@@ -163,7 +163,7 @@ fn masked_key<R: Key>(key: R, len: u8) -> R
     R::from_bits(key.to_bits() >> free << free)
 }
 
-/// Returns the prefix of the first `len` bits, with zeros after them.
+/// Returns the prefix of the first `len` bits, with zeros after them. `len` must be at most the length of the prefix.
 ///
 /// # Examples
 /// `prefix` is `(0x0a01_0203_u32, 16)`, for 10.1.2.3/16:
@@ -206,7 +206,7 @@ pub fn path_of<P: Prefix>(prefix: &P) -> Path
     )
 }
 
-/// Returns the prefix of the bits of a path, with zeros after them.
+/// Returns the prefix of the bits of a path, with zeros after them. The path must be no longer than a key.
 #[inline]
 pub fn prefix_of<P: Prefix>(path: &Path) -> P
     requires { length path.now ≤ P.R.width }

@@ -1,12 +1,12 @@
 -- Nearest tables and the fewest operations.
-use Rattle.std.proofs.Common.{◌≡◌, List, [], ◌∷◌, length, refl, sym, ap, ◌∙◌, subst, arith, append-nil}
+use Rattle.std.proofs.Common.{◌≡◌, List, [], ◌∷◌, length, ◌≤◌, refl, sym, ap, ◌∙◌, subst, arith, append-nil}
 use mathlib.Core.List.{reverse}
 use Rattle.std.proofs.lemmas.List.{length-map, length-reverse}
 use Rattle.route_laws.specs.LeastTables.{HasHops, IsLeast}
-use Rattle.route_laws.specs.Nearest.{IsNearest, FewestIsNearest, LeastIsNearest, NearestIsBounded, NearestIsFewest, NearestIsHitless}
-use Rattle.route_laws.specs.Operations.{Install, after_all, between, installs, missing}
-use Rattle.route_laws.specs.Painted.{painted_all}
-use Rattle.route_laws.specs.Tables.{Route}
+use Rattle.route_laws.specs.Nearest.{IsFewestTo, IsNearest, FewestIsNearest, LeastIsNearest, NearestIsBounded, NearestIsFewest, NearestIsHitless, UpdatesAreBounded, UpdatesAreFewest, UpdatesAreHitless}
+use Rattle.route_laws.specs.Operations.{Install, IsHitless, after_all, between, installs, missing}
+use Rattle.route_laws.specs.Painted.{most_operations, painted_all}
+use Rattle.route_laws.specs.Tables.{Route, hop_at}
 use Rattle.route_laws.proofs.Between.{between_hitless, between_reaches}
 use Rattle.route_laws.proofs.FewestOperations.{counted_all, fewest}
 use Rattle.route_laws.proofs.Painted.{changes_from, painted_all_is_table}
@@ -30,6 +30,17 @@ pub nearest_is_bounded : NearestIsBounded
 nearest_is_bounded M rs N m c n =
     let k = changes_from rs c in
     omega (arith, n.nearest (painted_all M rs) (record { table = painted_all_is_table M rs m k; same = λ x a. refl }), counted_all M rs m k)
+
+-- ---- updates
+
+pub updates_are_fewest : UpdatesAreFewest
+updates_are_fewest M rs os m u = subst (IsFewestTo M (hop_at (painted_all M rs))) (sym u.operations) (nearest_is_fewest M (hop_at (painted_all M rs)) u.table m u.nearest)
+
+pub updates_are_hitless : UpdatesAreHitless
+updates_are_hitless M rs os m u = subst (IsHitless M) (sym u.operations) (nearest_is_hitless M (hop_at (painted_all M rs)) u.table m u.nearest)
+
+pub updates_are_bounded : UpdatesAreBounded
+updates_are_bounded M rs os m c u = subst (λ l. length l ≤ most_operations M rs) (sym u.operations) (nearest_is_bounded M rs u.table m c u.nearest)
 
 -- ---- the empty table
 

@@ -1,5 +1,5 @@
 -- One thing in the place of all those inside its block: its members, how it is made, and the hops of a table then.
-use Rattle.std.proofs.Common.{◌≡◌, ◌-◌, ◌<◌, ◌⊎◌, inl, inr, ⊎_elim, Bool, false, not, cond, List, [], ◌∷◌, filter, ℕ, Option, None, Some, IsTrue, true, refl, ◌↔◌, sym, ap, ◌∙◌, subst, arith}
+use Rattle.std.proofs.Common.{◌≡◌, ◌<◌, ◌⊎◌, inl, inr, ⊎_elim, Bool, false, not, cond, List, [], ◌∷◌, filter, ℕ, Option, None, Some, IsTrue, true, refl, ◌↔◌, sym, ap, ◌∙◌, subst, arith}
 use Rattle.std.proofs.lemmas.Bool.{cond-false, false_from_ne_true, cond_both, cases_lt}
 use Rattle.ipnet_addr.specs.Addresses.{Address, IsAddress}
 use Rattle.ipnet_addr.proofs.Members.{In}
@@ -20,7 +20,7 @@ use Rattle.route_laws.specs.Tables.{Route, IsTable, longer, longest, match_of, h
 use Rattle.route_laws.proofs.Families.{hop_is}
 use Rattle.route_laws.proofs.Updates.{match_after_add, added_is_table}
 use Rattle.route_laws.specs.Networks.{IsLeaf, Stored, IsStoredTable, best_route, networks_outside, overwritten_by, routes_of}
-use Rattle.route_laws.proofs.Insides.{Sooner, filter_again, has_from_test as held_from_test, rising, table_kept}
+use Rattle.route_laws.proofs.Insides.{Sooner, filter_again, has_from_test as held_from_test, table_kept}
 use Rattle.route_laws.proofs.Matches.{block_in, governed_match, inside_from_test, match_of_own, test_from_inside}
 use Rattle.route_laws.proofs.Networks.{routes_with, stored_block, stored_kept}
 use Rattle.route_laws.proofs.Ordered.{Earlier, put, put_back, put_itself, put_other, put_rises, not_cases, not_from, alone}

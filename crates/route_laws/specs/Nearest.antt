@@ -42,3 +42,15 @@ NearestIsBounded = (M rs N : List Route) → IsTable M → AreChanges rs → IsN
 -- a table is least exactly if it is nearest to the empty table
 abbrev pub LeastIsNearest : Type 0
 LeastIsNearest = (h : Address → Option ℕ) (N : List Route) → IsLeast h N ↔ IsNearest [] h N
+
+-- updates are the fewest operations that give each address its hop after the changes
+abbrev pub UpdatesAreFewest : Type 0
+UpdatesAreFewest = (M rs : List Route) (os : List Operation) → IsTable M → AreUpdates M rs os → IsFewestTo M (hop_at (painted_all M rs)) os
+
+-- on the way each address changes its hop at most once
+abbrev pub UpdatesAreHitless : Type 0
+UpdatesAreHitless = (M rs : List Route) (os : List Operation) → IsTable M → AreUpdates M rs os → IsHitless M os
+
+-- there is at most one update for each change, and one for each route strictly inside its block
+abbrev pub UpdatesAreBounded : Type 0
+UpdatesAreBounded = (M rs : List Route) (os : List Operation) → IsTable M → AreChanges rs → AreUpdates M rs os → length os ≤ most_operations M rs

@@ -2,7 +2,7 @@
 ghost use Rattle.route_laws.specs.Fewest.{FewestByHalves, FewestOfHost, GivenHops, HopsOfTable, LeastIsFewest};
 ghost use Rattle.route_laws.specs.Laws.{AllThenDel, BlocksOfChoices, ChangedByChoices, ChoicesAfter, ChoicesHaveOneHop, MatchOfChoices, NetworkRestored, NoneIsFree, OthersAreFree, RoutesAreTable, RoutesOfAdd, RoutesOfDel, RoutesOfOverwrite, SameTables, StaysStored, MatchIsLongest, GovernedMatch, GovernedBound, StaysTable, ChangedIsMaximal, AddedHaveOneHop, LeftHaveOneHop, ChangedByAdd, ChangedByDel, BlocksOfAdd, BlocksOfDel, GovernedAfter, AddThenDel, OtherFamilyAfterAdd, OtherFamilyAfterDel, FlatIsShortest, ShortestIsFlat, FlatIsAdmissible, SameFlat, SearchIsFlat, OwnIsMaximal, FlatIsBounded, FlatIsTable, FlatReadded, FlatRebuilds, ReaddedAreNew, OverwriteIsTable, HopsOfOverwrite, PagesAreRoutes, PagesEnd, MembersAfterAdd, MembersAfterDel, MatchAfterAdd, MatchAfterDel, ChangedIsShortest, ShortestIsChanged, MaximalIsChanged, EmptyIsFlat, OneRouteIsChanged, OneRouteHops, OneRouteIsFlat};
 
-pub use crate::operations::{between, nearest, paints, runs};
+pub use crate::operations::{between, nearest, paints, runs, updates};
 pub use route_choices::laws::choices;
 
 /// The match of a block is the longest stored network that contains it. Each address that a block governs has the same match as the
@@ -108,9 +108,9 @@ pub fn best_routes()
     ensures matches { MatchOfChoices }
 {}
 
-/// A change of a table makes a table, with the new choices of its network and the same of every other. Tables with equal choices are
-/// equal. A `del` of a hop that isn't stored changes nothing. A `del` right after an `add` of a new network, with the same hop, restores
-/// the table. A `del` of each choice of a network removes the network.
+/// A change of a table makes a table, with the new choices of its network, and leaves the choices of every other. Tables with equal
+/// choices are equal. A `del` of a hop that isn't stored changes nothing. A `del` right after an `add` of a new network, with the same
+/// hop, restores the table. A `del` of each choice of a network removes the network.
 pub fn networks()
     ensures stays { StaysStored }
     ensures after { ChoicesAfter }
@@ -128,7 +128,7 @@ pub fn changed_networks()
 {}
 
 /// The fewest routes inside a block that give each of its addresses a given hop, if the block inherits a hop or none from the routes
-/// outside. For a block of one address, the hop decides. For any other block, it follows from what the halves need. In each family, a
+/// outside. For a block of one address, the hop decides. For any other block, it follows from the needs of its halves. In each family, a
 /// least table has as many routes as all addresses need if they inherit nothing. The hops of a table are valid hop numbers, as `host` and
 /// `halves` require, and so are the hops that some table gives.
 pub fn fewest()

@@ -1,5 +1,5 @@
 //! Theorems about the operations that turn one table into another.
-ghost use Rattle.route_laws.specs.Nearest.{FewestIsNearest, LeastIsNearest, NearestIsBounded, NearestIsFewest, NearestIsHitless};
+ghost use Rattle.route_laws.specs.Nearest.{FewestIsNearest, LeastIsNearest, NearestIsBounded, NearestIsFewest, NearestIsHitless, UpdatesAreBounded, UpdatesAreFewest, UpdatesAreHitless};
 ghost use Rattle.route_laws.specs.OperationLaws.{BetweenIsFewest, BetweenIsHitless, BetweenReaches, GivenReaches, GivesHitless, GivesWhatItSays, HopsOfChanges, HopsOfPainted, KeepsHops, PaintedIsTable, SyncIsLeast, SyncIsUnseen, SyncStays, ToldAreChanges, ToldIsFewest};
 
 /// The operations between two tables turn the first into the second. On the way each address changes its hop at most once, from its
@@ -29,6 +29,15 @@ pub fn nearest()
     ensures hitless { NearestIsHitless }
     ensures bound { NearestIsBounded }
     ensures least { LeastIsNearest }
+{}
+
+/// The operations that `HopTable::updates` of `route_table` returns for changes. They are the fewest of all that give each address its hop
+/// after the changes, and on the way each address changes its hop at most once. There is at most one of them for each change, and one for
+/// each route strictly inside its block.
+pub fn updates()
+    ensures fewest { UpdatesAreFewest }
+    ensures hitless { UpdatesAreHitless }
+    ensures bound { UpdatesAreBounded }
 {}
 
 /// A table that is kept installed, event by event. An event is a route that is installed already, a group of changes, or a least table

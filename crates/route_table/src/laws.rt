@@ -11,7 +11,7 @@ pub use prefix_trie::laws::refusals;
 pub use route_choices::laws::hops;
 pub use route_laws::laws::{
     best_routes, between, changed, changed_networks, changes, choices, fewest, flat, held, kept,
-    matches, nearest, networks, one_route, overwrites, pages, paints, runs,
+    matches, nearest, networks, one_route, overwrites, pages, paints, runs, updates,
 };
 
 /// `==` holds exactly for equal refusals. A clone of a refusal equals it, and cloning never fails.

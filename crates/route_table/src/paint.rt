@@ -18,7 +18,7 @@ use prefix_trie::Refused;
 use route_choices::Hop;
 
 impl HopTable {
-    /// Removes every network inside this one, itself included, and stores one route for it, unless the routes outside give its addresses
+    /// Removes every network inside this one, itself included. Then it stores one route for it, unless the routes outside give its addresses
     /// this hop already. All addresses of the network then have the hop, and all others keep theirs. If it stores no route, it does not
     /// allocate.
     ///

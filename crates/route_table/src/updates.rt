@@ -214,7 +214,7 @@ fn operations(alloc: Global, v4: &[Edit], v6: &[Edit]) -> Result<Vec<Operation>,
 impl HopTable {
     /// Returns the fewest operations that carry out the changes. If they are carried out on this table, each address gets the hop of the last
     /// change that contains it, and all others keep their hop. No fewer operations do this. All installs come before all removes, and on the
-    /// way each address changes its hop at most once (`route_laws::laws::nearest`). The table stays as it is: `carry_out` changes it.
+    /// way each address changes its hop at most once (`route_laws::laws::updates`). The table stays as it is: `carry_out` changes it.
     ///
     /// The networks of the operations have no host bits. If there are several such sequences, any of them may be returned.
     ///

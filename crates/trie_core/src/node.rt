@@ -237,7 +237,9 @@ impl<T> Node<T> {
         None
     }
 
-    /// Returns the length of the longest key that is a prefix of the path or the path itself, with its value.
+    /// Returns the length of the longest key that is a prefix of the path or the path itself, with its value. It is inlined, so that the path
+    /// and the result stay in registers.
+    #[inline(always)]
     pub fn longest(&self, path: Path) -> Option<(u8, &T)>
         requires { length path ≤ 128 }
         ensures { MatchOption result (NoBeginning self.now.entries path) (λ r. IsLongest self.now.entries path r.0 r.1.now) }
