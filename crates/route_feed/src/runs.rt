@@ -68,8 +68,8 @@ pub fn lead<R: Read, W: Write>(
     lead_then(alloc, reader, writer, AtEnd::Free)
 }
 
-/// Runs as `lead` does. At the end it frees the memory of the table, or leaks it; after an error it may free it in any case. Freeing it list by list, as `lead` does, takes up to an
-/// eighth of the time of a run.
+/// Runs as `lead` does. At the end it frees the memory of the table, or leaks it; after an error it may free it in any case. Freeing it
+/// list by list, as `lead` does, takes up to an eighth of the time of a run.
 ///
 /// # Errors
 /// As in `lead`.

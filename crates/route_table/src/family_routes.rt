@@ -59,9 +59,15 @@ impl<'a, P: Prefix> Entries<'a, P> {
 }
 
 /// The routes of one side that are left.
-#[derive(Drop)]
 pub(crate) struct FamilyRoutes<'a, P: FamilyNet> {
     entries: Entries<'a, P>,
+}
+
+/// A destructor of its own, so that a crate that drops routes doesn't check the destructors of their walks again.
+impl<'a, P: FamilyNet> Drop for FamilyRoutes<'a, P> {
+    fn drop(self) {
+        let FamilyRoutes { entries: _ } = self;
+    }
 }
 
 impl<'a, P: FamilyNet> Model for FamilyRoutes<'a, P> {
