@@ -1,6 +1,7 @@
 """The check of recipes/service: the daemons by the commands of their units, in a network namespace and a small file system."""
 import contextlib
 import errno
+import fcntl
 import os
 import random
 import re
@@ -67,11 +68,12 @@ class Daemon(threading.Thread):
 
 
 class Source(threading.Thread):
-    """Appends commands to a file. When the disk is full, it waits for room."""
+    """Appends commands to a file, which it locks as the recipes with a `feed` do. When the disk is full, it waits for room."""
 
     def __init__(self, path, draw):
         super().__init__(daemon=True)
-        self.path, self.draw, self.is_ending, self.count, self.waits = path, draw, False, 0, 0
+        self.file, self.draw, self.is_ending, self.count, self.waits = open(path, "ab", buffering=0), draw, False, 0, 0
+        fcntl.flock(self.file, fcntl.LOCK_EX | fcntl.LOCK_NB)
         self.start()
 
     def any_command(self):
@@ -80,17 +82,17 @@ class Source(threading.Thread):
         return f"del {network} {hop}\n" if self.draw.random() < 0.4 else f"add {network} {hop} {self.draw.randrange(90, 110)}\n"
 
     def run(self):
-        with open(self.path, "ab", buffering=0) as file:
+        with self.file:
             while not self.is_ending:
                 count = self.draw.choice((1, 2, 50))
-                self.append(file, "".join(self.any_command() for _ in range(count)).encode())
+                self.append("".join(self.any_command() for _ in range(count)).encode())
                 self.count += count
                 time.sleep(0.1)
 
-    def append(self, file, given):
+    def append(self, given):
         while given:
             try:
-                given = given[os.write(file.fileno(), given):]
+                given = given[os.write(self.file.fileno(), given):]
             except OSError as error:
                 same("the error", error.errno, errno.ENOSPC)
                 self.waits += 1
@@ -162,6 +164,7 @@ def check_status(folder, run, daemons):
              'jolmidda_replies_total{part="lead"}': str(Path(folder, "commands").read_text().count("\n"))}
     level |= {f'jolmidda_up{{part="{unit}"}}': "1" for unit in UNITS}
     wait_for(f"{level}", lambda: metrics(run).items() >= level.items())
+    print("refused:", refused(sys.argv[0], "lead", folder, "/none"))
     print(tool(sys.argv[0], "status", run), end="")
     daemons["keep"].end()
     with open(f"{folder}/commands", "a") as file:
