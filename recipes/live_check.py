@@ -557,7 +557,7 @@ def page_of(folder, own, control):
 
 
 def check_page(folder):
-    """The page's example, its two sources of commands, and a leader's restart."""
+    """The page's example, commands from BIRD, a leader's restart, and the way back."""
     lines = ("address add 192.0.2.254/24 dev lan", "address add 2001:db8:5::254/64 dev lan nodad",
              "route add default via 192.0.2.1", "route add default via 2001:db8:5::1")
     with namespace(*lines) as own, bird(folder, START + WEST + EAST, *inside(own)) as control, page_of(folder, own, control) as page:
@@ -572,9 +572,9 @@ def check_page(folder):
             shows(page)
             page.gives(page.run())
             check_bird(folder, page, control)
-            check_monitor(page)
             restart = others.enter_context(background(page))
             check_restart(page, restart)
+            check_back(page)
         page.end()
 
 
@@ -583,6 +583,15 @@ def check_restart(page, restart):
     same("the status of the restart", restart.wait(), 0)
     page.run("echo 'add 10.192.0.0/10 1 200' >> commands")
     wait_for("the command after a restart", lambda: way_out(page, "10.192.0.1").endswith("via 192.0.2.1 dev lan"))
+
+
+def check_back(page):
+    """The kernel has its own rules alone, and table 77 is empty and stays so."""
+    page.run()
+    same("the rules", page.run("ip rule | grep -c .; ip -6 rule | grep -c .").split(), ["3", "2"])
+    wait_for("the end of `keep`", lambda: not is_running(int(page.run("cat keep.pid"))))
+    same("the table", page.run("for six in '' -6; do ip $six route show table 77 2> /dev/null || true; done"), "")
+    print("the page: commands from a file and from BIRD, a leader's restart, and the way back")
 
 
 def way_out(page, address, *how):
@@ -615,20 +624,6 @@ def check_bird(folder, page, control):
         Path(folder, "bird.conf").write_text(START + WEST)
         tool("birdc", "-s", control, "configure")
         shows(page, before + of_bird.format(2))
-
-
-def check_monitor(page):
-    """Routes of the table `main` come and change; a connected one is the first."""
-    needs("jq", "jq")
-    before, of_bird = show(page).split("198", 1)
-    before += "192.0.2.0/24 dev lan proto 77 scope link\n198" + of_bird
-    other = "203.0.113.0/24 via 192.0.2.{} dev lan proto 77\n"
-    page.run("ip route add 203.0.113.0/24 via 192.0.2.1 dev lan")
-    with background(page):
-        shows(page, before + other.format(1))
-        page.run("ip route replace 203.0.113.0/24 via 192.0.2.2 dev lan")
-        shows(page, before + other.format(2))
-    print("the page: commands from a file, from BIRD and from the kernel's table `main`")
 
 
 LAN = ("address add 192.0.2.254/24 dev lan", "rule add pref 100 lookup main suppress_prefixlength 0", "rule add pref 101 lookup 77")
