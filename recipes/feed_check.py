@@ -13,7 +13,7 @@ from pathlib import Path
 
 from common import HERE, any_addresses, bird, fault, namespace, needs, same, text, tool
 from live_check import FIB_KERNEL, Asked, inside, load, packed, peak, usable, wait_for
-from streams_check import BGP, BGPD, GATEWAYS, LINES, PEERS, START, Bird, blocks, chain_of, configured, daemons
+from streams_check import BGP, BGPD, GATEWAYS, LINES, PEERS, START, Bird, begin, blocks, chain_of, configured, daemons
 
 HOPS, QUIET, TURN, LONGEST = 6, 10, 0.5, 3600  # next hops; seconds without a new command at the end, between two looks, in all
 SIX = re.compile("-6|:.*:")
@@ -118,9 +118,8 @@ def start(chain, recipe, folder, place):
     if recipe == "gobgp":
         chain.start("gobgpd", "gobgpd -f gobgpd.toml")
         wait_for("gobgpd", lambda: subprocess.run([*inside(chain.own), "gobgp", "neighbor"], capture_output=True).returncode == 0)
-    for name, line in zip(("leader", "keep", recipe), chain.page.text().splitlines()):
-        chain.start(name, line.rstrip("& ").replace("live keep", "live keep -s state"))
-        wait_for("the files", lambda: all(map(os.path.exists, chain.files)))
+    commands = chain.page.text().replace("/usr/local/share/jolmidda/recipes", str(HERE)).replace("live keep", "live keep -s state")
+    begin(chain, commands, "leader", "keep", recipe)
     wait_for("the first sync", lambda: "first `sync`" in chain.said("keep"))
 
 

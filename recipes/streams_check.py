@@ -246,13 +246,47 @@ def blocks(page, name):
     return block
 
 
-def three(chain, *names):
-    """Starts the page's three commands, in their order."""
-    for name, line in zip(names, blocks(chain.page, None).splitlines()):
-        chain.shown[name] = line.rstrip("& ")
-        chain.start(name, chain.shown[name])
-        if name == "leader":
-            wait_for("the files", lambda: all(map(os.path.exists, chain.files)))
+def begin(chain, block, *names):
+    """Runs the page's commands in their order. Those that go on in the background have these names."""
+    names = iter(names)
+    for line in block.splitlines():
+        *before, last = line.rstrip("& ").split("; ") if line.endswith("&") else [line, ""]
+        if before:
+            chain.page.run("; ".join(before))
+        if last:
+            name = next(names)
+            chain.shown[name] = last
+            chain.start(name, last)
+
+
+def begin_again(chain, block, *names):
+    """All has ended, and the page's commands start it again, with a leader that takes its time. Table 77 loses no route."""
+    events, program = socket_in(chain.own), Path(chain.folder, "bin/routes")
+    real, before = program.resolve(), chain.said("keep").count("first `sync`")
+    for group in (7, 11):  # RTNLGRP_IPV4_ROUTE, RTNLGRP_IPV6_ROUTE
+        events.setsockopt(270, 1, group)  # SOL_NETLINK, NETLINK_ADD_MEMBERSHIP
+    for name in names:
+        chain.stop(name, signal.SIGKILL)
+    program.unlink()
+    program.write_text(f'#!/bin/sh\nsleep 2\nexec {real} "$@"\n')
+    program.chmod(0o755)
+    begin(chain, block, *names)
+    wait_for("the first sync after all has ended", lambda: chain.said("keep").count("first `sync`") > before)
+    program.unlink()
+    program.symlink_to(real)
+    gone = []
+    while select.select([events], [], [], 1)[0]:
+        gone += [netlink.route(body) for kind, _, _, body in netlink.messages(events.recv(1 << 17)) if kind == netlink.DELROUTE]
+    events.close()
+    same("routes that table 77 lost", [route for route in gone if route and route.table == 77], [])
+    print("all ended and began again: table 77 lost no route")
+
+
+def use(chain):
+    """The page's rules: packets use table 77."""
+    for rule in blocks(chain.page, None).splitlines():
+        tool(*inside(chain.own), *rule.split())
+    wait_for("a packet that uses table 77", lambda: " table 77 " in tool(*inside(chain.own), "ip", "route", "get", "10.0.0.1"))
 
 
 def milliseconds(chain, change):
@@ -315,7 +349,8 @@ def exabgp():
             chain_of(folder, own) as chain:
         check_ninth(chain)
         blocks(chain.page, "exabgp.conf")
-        three(chain, "leader", "keep", "exabgp")
+        commands = blocks(chain.page, None)
+        begin(chain, commands, "leader", "keep", "exabgp")
         for name in first:
             upstream.set({"a": {}, "b": {}} | {one: first[one] for one in first if one <= name})
             wait_for(f"the route of {name}", lambda: {"a": " 1 200\n", "b": " 2 100\n"}[name] in chain.commands())
@@ -325,6 +360,7 @@ def exabgp():
         wait_for("the route that goes", lambda: "del" in chain.commands())
         chain.page.gives(chain.commands().splitlines(keepends=True)[-1])
         chain.page.end()
+        begin_again(chain, commands, "leader", "keep", "exabgp")
         upstream.say("enable a")
         exabgp_rounds(chain, upstream)
         exabgp_ends(chain, upstream)
@@ -436,7 +472,8 @@ def gobgp():
         blocks(chain.page, "gobgpd.toml")
         chain.start("gobgpd", "gobgpd -f gobgpd.toml")
         wait_for("gobgpd", lambda: subprocess.run([*inside(own), "gobgp", "neighbor"], capture_output=True).returncode == 0)
-        three(chain, "leader", "keep", "gobgp")
+        commands = blocks(chain.page, None)
+        begin(chain, commands, "leader", "keep", "gobgp")
         for gateway in ("192.0.2.1", "192.0.2.2"):
             upstream.set({"a": {"10.0.0.0/8": (gateway, 100)}})
             wait_for(gateway, lambda: f"via {gateway} " in Path(chain.files[0]).read_text())
@@ -444,6 +481,7 @@ def gobgp():
         chain.page.gives(chain.commands())
         chain.page.gives(Path(chain.files[0]).read_text())
         chain.page.end()
+        begin_again(chain, commands, "leader", "keep", "gobgp")
         gobgp_rounds(chain, upstream)
 
 
@@ -543,19 +581,17 @@ def frr():
     peers = {"a": PEERS["a"]}
     with tempfile.TemporaryDirectory() as folder, namespace(LINES[0], "link set lan up") as own, daemons(folder, own) as place, \
             chain_of(folder, own) as chain:
-        fpm, commands = blocks(chain.page, None), chain.page.text()
-        static = chain.page.text()
+        fpm, commands, static = (blocks(chain.page, None) for _ in range(3))
         chain.fpm = fpm
         configured(folder, place, fpm + static)
-        chain.page.blocks.insert(0, commands)
-        three(chain, "leader", "keep", "frr")
+        begin(chain, commands, "leader", "keep", "frr")
         wait_for("the dump", lambda: "the dump is over" in chain.said("frr"), LONG)
         chain.page.gives("".join(sorted(chain.commands().splitlines(keepends=True))))
         chain.page.gives(Path(chain.files[0]).read_text())
-        for rule in blocks(chain.page, None).splitlines():
-            tool(*inside(own), *rule.split())
+        use(chain)
         chain.removal = blocks(chain.page, None).split()
         chain.page.end()
+        begin_again(chain, commands, "leader", "keep", "frr")
         configured(folder, place, "".join(f"no {line}\n" for line in static.splitlines()))
         for line in LINES[1:]:
             tool("ip", "-n", own, *line.split())
@@ -633,14 +669,17 @@ def frr_inputs(chain, folder, place):
 def rtnetlink():
     needs("jq", "jq")
     with tempfile.TemporaryDirectory() as folder, namespace(*LINES[:1]) as own, chain_of(folder, own) as chain:
-        three(chain, "leader", "keep", "rtnetlink")
+        commands = blocks(chain.page, None)
+        begin(chain, commands, "leader", "keep", "rtnetlink")
         wait_for("the connected network", lambda: "add 192.0.2.0/24" in chain.commands())
         for line in blocks(chain.page, None).splitlines():
             tool("ip", "-n", own, *line.split()[1:])
         wait_for("the last route", lambda: "10.1.0.0/16" in chain.commands())
         chain.page.gives(chain.commands())
         chain.page.gives(Path(chain.files[0]).read_text())
+        use(chain)
         chain.page.end()
+        begin_again(chain, commands, "leader", "keep", "rtnetlink")
         tool("ip", "-n", own, "route", "flush", "root", "10.0.0.0/8")
         rtnetlink_rounds(chain)
         for at in ("0", "x", "4294967296", "78"):
