@@ -278,7 +278,7 @@ def begin_again(chain, block, *names):
     while select.select([events], [], [], 1)[0]:
         gone += [netlink.route(body) for kind, _, _, body in netlink.messages(events.recv(1 << 17)) if kind == netlink.DELROUTE]
     events.close()
-    same("routes that table 77 lost", [route for route in gone if route and route.table == 77], [])
+    same("routes that table 77 lost", [route.network for route in gone if route and route.table == 77], [])
     print("all ended and began again: table 77 lost no route")
 
 
