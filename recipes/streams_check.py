@@ -680,7 +680,8 @@ def rtnetlink():
         use(chain)
         chain.page.end()
         begin_again(chain, commands, "leader", "keep", "rtnetlink")
-        tool("ip", "-n", own, "route", "flush", "root", "10.0.0.0/8")
+        for line in ("rule del pref 99", "-6 rule del pref 99", "route flush root 10.0.0.0/8"):
+            tool("ip", "-n", own, *line.split())
         rtnetlink_rounds(chain)
         for at in ("0", "x", "4294967296", "78"):
             chain.page.refuses(f"recipes/rtnetlink feed {at} hops.new commands.new") if at == "78" else None
