@@ -32,7 +32,7 @@
 extern "C" {
 #endif
 
-/* The results of the calls that can fail. */
+/* The results of the calls that can fail. If several apply, ROUTES_TOO_LONG and ROUTES_OPEN come first. */
 enum routes_answer {
     ROUTES_OK = 0,
     ROUTES_MISSING = 1,    /* no network contains the address, or it has no hop; the network has no such hop; or

@@ -1,7 +1,6 @@
 -- Ranges of the runs of a flat list that were passed.
-use Rattle.std.proofs.Common.{◌≡◌, ℕ, ◌+◌, ◌^◌, ◌<◌, ◌≤◌, ◌⊎◌, inl, inr, ⊎_elim, List, [], map, Option, Some, None, length, length-append, refl, sym, ap, ◌∙◌, subst, arith}
+use Rattle.std.proofs.Common.{◌≡◌, ℕ, ◌+◌, ◌^◌, ◌<◌, ◌≤◌, ◌⊎◌, inl, inr, ⊎_elim, List, [], map, Option, Some, None, length, length-append, refl, sym, ap, ◌∙◌, subst, pow_pos, arith}
 use Rattle.std.proofs.lemmas.Bool.{cases_lt}
-use Rattle.std.proofs.lemmas.Nat.{pow_pos}
 use Rattle.ipnet_addr.specs.Addresses.{Address, Family, rank, width}
 use Rattle.ipnet_addr.proofs.Members.{In, In-cases, In-left, In-right}
 use Rattle.ipnet_addr.proofs.Ascending.{Any-from_In, Contains-from_In, In-from_Any, Rising, Rising-from_pairs}

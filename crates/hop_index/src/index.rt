@@ -1,5 +1,5 @@
 //! The index of the hops of the addresses of both families.
-ghost use Rattle.std.specs.Prelude.{◌≡◌, ◌^◌, ℕ, IfErr, IfOk, Option, length, map};
+ghost use Rattle.std.specs.Prelude.{◌≡◌, ℕ, IfErr, IfOk, Option, length, map};
 ghost use Rattle.ipnet_addr.specs.Addresses.{Address, IsAddress, Ipv4, Ipv6, address_of};
 ghost use Rattle.route_laws.specs.Flats.{IsFlat};
 ghost use Rattle.route_laws.specs.Networks.{routes_of};
@@ -114,7 +114,7 @@ impl HopIndex {
     /// Compiles an index of the hops of a table. `drop` and no route are both `None`.
     ///
     /// # Errors
-    /// `Memory` if an allocation fails, or if a family has 2^30 ranges or more: adjacent addresses with one hop, or with none.
+    /// `Memory` if an allocation fails, or if a family has 2^30 - 4 ranges or more: adjacent addresses with one hop, or with none.
     ///
     /// # Examples
     /// If 10.0.0.0/8 has the hop 1 and 10.0.0.0/9 the hop 2, and `address` parses a text:
@@ -134,7 +134,7 @@ impl HopIndex {
     /// Compiles an index of the hops of a table with one route for each network. `drop` and no route are both `None`.
     ///
     /// # Errors
-    /// `Memory` if an allocation fails, or if a family has 2^30 ranges or more: adjacent addresses with one hop, or with none.
+    /// `Memory` if an allocation fails, or if a family has 2^30 - 4 ranges or more: adjacent addresses with one hop, or with none.
     ///
     /// # Examples
     /// If `best` is a `HopTable`:
@@ -152,7 +152,7 @@ impl HopIndex {
     /// Compiles an index of the hops of a flat list, such as the result of `RouteTable::flat`. All other addresses have no hop.
     ///
     /// # Errors
-    /// `Memory` if an allocation fails, or if a family has 2^30 ranges or more: adjacent addresses with one hop, or with none.
+    /// `Memory` if an allocation fails, or if a family has 2^30 - 4 ranges or more: adjacent addresses with one hop, or with none.
     ///
     /// # Examples
     /// ```rust

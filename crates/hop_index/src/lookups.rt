@@ -1,5 +1,5 @@
 //! Lookups in the ranges of a family.
-ghost use Rattle.std.specs.Prelude.{◌≡◌, ℕ, ◌+◌, ◌^◌, ◌<◌, IfOk, length};
+ghost use Rattle.std.specs.Prelude.{◌≡◌, ℕ, ◌^◌, ◌<◌, IfOk, length};
 ghost use Rattle.hop_index.specs.Ranges.{hop_in};
 ghost use Rattle.hop_index.specs.InnerNodes.{Leads, cell_at};
 ghost use Rattle.hop_index.specs.InnerRanges.{AreAscending, EndsBelow};

@@ -1,6 +1,6 @@
 //! Nodes: cells in which many ranges end, divided again.
 ghost use Rattle.std.specs.Prelude.{◌≡◌, ℕ, ◌+◌, ◌-◌, ◌^◌, ◌<◌, ◌≤◌, ◌↔◌, ◌++◌, [], ◌∷◌, List, Some, IfOk, IfSome, IsTrue, OnOk, length, option_copied, slice_index_or};
-ghost use Rattle.hop_index.specs.Ranges.{HopRange, hop_in};
+ghost use Rattle.hop_index.specs.Ranges.{HopRange};
 ghost use Rattle.hop_index.specs.InnerRanges.{AreAscending, ArePadded, AreTops, EndsBelow, EndsFrom};
 ghost use Rattle.hop_index.specs.InnerNodes.{AreEntries, AreNodes, HasHop, IsBetween, Leads, StoredNode, cell_by, cell_in, hop_in_entry};
 

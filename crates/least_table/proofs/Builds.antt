@@ -1,6 +1,5 @@
 -- The steps of the code that makes a plan.
-use Rattle.std.proofs.Common.{◌≡◌, ℕ, suc, ◌-◌, ◌<◌, Bool, true, false, List, ◌∷◌, ◌++◌, take, drop, Option, sym, ap, ◌∙◌, subst, arith}
-use Rattle.std.proofs.lemmas.List.{take-append-drop}
+use Rattle.std.proofs.Common.{◌≡◌, ℕ, suc, ◌-◌, ◌<◌, Bool, true, false, List, ◌∷◌, ◌++◌, take, drop, Option, sym, ap, ◌∙◌, subst, take-append-drop, arith}
 use Rattle.least_table.specs.Tables.{half_of, inner_of}
 use Rattle.least_table.specs.Pieces.{piece_hop}
 use Rattle.least_table.specs.InnerTrees.{LeastPlan, Leaf, Fork, Skip, PlanFits, IsLeastPlan}

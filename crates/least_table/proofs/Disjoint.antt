@@ -1,6 +1,5 @@
 -- Pieces that are disjoint and ascend.
-use Rattle.std.proofs.Common.{◌≡◌, ℕ, suc, ◌<◌, Bool, true, false, List, [], ◌∷◌, length, slice_index_or, refl, arith}
-use Rattle.std.specs.declared.cmp.Ordering.TheVariants.{Less}
+use Rattle.std.proofs.Common.{◌≡◌, ℕ, suc, ◌<◌, Bool, true, false, List, [], ◌∷◌, length, slice_index_or, refl, Less, arith}
 use Rattle.ipnet_blocks.specs.BitStrings.{bits_cmp, begins}
 use Rattle.least_table.specs.Pieces.{AreDisjoint}
 use Rattle.least_table.specs.InnerPieces.{before, BeforeAll, AreRisingPieces}

@@ -1,5 +1,6 @@
 -- Plans are joined and made wider: their steps, and those that are appended.
 use Rattle.std.proofs.Common.{◌≡◌, ℕ, suc, ◌-◌, Bool, true, List, [], ◌∷◌, ◌++◌, length, Option, Some, None, refl, sym, ap, ◌∙◌, subst, arith, append_assoc, append-nil, length-append, MatchOption}
+use Rattle.std.proofs.lemmas.List.{same_from_push}
 use Rattle.least_table.specs.BestHops.{Of, AreMerged}
 use Rattle.least_table.specs.HopSets.{holds}
 use Rattle.least_table.specs.InnerPacked.{Grows, AreWhole, IsKeptStep, best_at, stored_step, steps_in}
@@ -14,7 +15,7 @@ use Rattle.least_table.specs.declared.plan.Steps.{Steps}
 use Rattle.least_table.proofs.Gathers.{best_last}
 use Rattle.least_table.proofs.LeastPlans.{merged_in}
 use Rattle.least_table.proofs.Packed.{popped, kept_popped}
-use Rattle.least_table.proofs.Takes.{last_taken, left_of, same_ends}
+use Rattle.least_table.proofs.Takes.{last_taken, left_of}
 use Rattle.least_table.proofs.Tops.{below, read_top, top_best, top_last}
 use Rattle.least_table.proofs.Widths.{forked, lone, longer}
 
@@ -39,7 +40,7 @@ skip_plan (Fork ks l r) way k hops e = cc
 -- what is taken off a list is its last item
 pub pop_last : {X : Type 0} (old rest new : List X) (y : X) (r : Option X) → old ≡ rest ++ y ∷ [] → MatchOption r ((old ≡ []) × (new ≡ [])) (λ x. old ≡ new ++ x ∷ []) → old ≡ new ++ y ∷ []
 pop_last old rest new y None e h = absurd (omega (arith, ap length (sym e ∙ h.0), length-append rest (y ∷ [])))
-pop_last old rest new y (Some x) e h = h ∙ ap (λ z. new ++ z ∷ []) (sym (same_ends rest new y x (sym e ∙ h)).1)
+pop_last old rest new y (Some x) e h = h ∙ ap (λ z. new ++ z ∷ []) (sym (same_from_push rest new y x (sym e ∙ h)).1)
 
 -- what is left of whole steps
 pub left_whole : (old : Steps) (rest : List Packed) (y : Packed) → old.steps ≡ rest ++ y ∷ [] → AreWhole old → AreWhole (left_of old rest) × IsKeptStep old.sets y

@@ -1,5 +1,5 @@
 -- Lower halves that wait for their upper ones.
-use Rattle.std.proofs.Common.{◌≡◌, ℕ, zero, suc, ◌+◌, ◌-◌, ◌≤◌, ◌<◌, Bool, true, false, List, [], ◌∷◌, ◌++◌, length, take, drop, reverse, slice_index_or, Option, Some, None, refl, sym, ap, ap₂, ◌∙◌, subst, arith, append-nil, add-one, drop_of_length-le, length-append, MatchOption}
+use Rattle.std.proofs.Common.{◌≡◌, ℕ, zero, suc, ◌+◌, ◌-◌, ◌≤◌, ◌<◌, Bool, true, false, List, [], ◌∷◌, ◌++◌, length, take, drop, reverse, slice_index_or, Option, Some, None, refl, sym, ap, ap₂, ◌∙◌, subst, arith, append-nil, add-one, drop_of_length-le, MatchOption}
 use Rattle.std.proofs.lemmas.List.{drop-append-le, length-take-le, map-id, reverse-append, take-append-le, take_all}
 use Rattle.ipnet_blocks.specs.BitStrings.{begins}
 use Rattle.ipnet_blocks.proofs.BitStrings.{take_begins}
@@ -21,7 +21,6 @@ use Rattle.least_table.proofs.Builds.{fits_plan, halves_made}
 use Rattle.least_table.proofs.Disjoint.{ascending_from}
 use Rattle.least_table.proofs.Gathers.{AllBegin-next, AllShare-less, begins_drop}
 use Rattle.least_table.proofs.Stores.{within-whole}
-use Rattle.least_table.proofs.Tops.{top_last, below}
 
 -- ---- strings
 
@@ -151,10 +150,6 @@ module _ (w : ℕ) where
     where
       lt_of_ne : (o.depth ≡ n → ⊥) → o.depth < n
       lt_of_ne f = omega (arith, f, h.0)
-
-  -- a plan has steps
-  pub some_step : (xs : List Step) (p : LeastPlan) (s : Steps) → EndsWithPlan xs p s → 0 < length (steps_in s)
-  some_step xs p s h = omega (arith, ap length h.steps ∙ length-append xs (steps_of p), ap length (top_last p), length-append (below p) (top p ∷ []))
 
   -- the one that the last piece lies in, where the next one lies in the upper half
   pub turned : (a z : List Bool) (n : ℕ) (os : List Lower) (ps : List (List Bool × ℕ)) (s t : Steps) (held : LowerPlan) → Parts a z n → (h : ArePlanned w a (n + 1) (n + 1) ps os s) → IsHeld held h.plans.plan h.before (steps_in t)

@@ -1,8 +1,7 @@
 -- Lists of hops in rising order, and their merge.
-use Rattle.std.proofs.Common.{◌≡◌, ◌⊎◌, inl, inr, ℕ, suc, ◌+◌, ◌-◌, ◌<◌, Bool, true, false, ◌&&◌, ◌||◌, List, [], ◌∷◌, ◌++◌, length, take, drop, slice_index_or, Option, Some, None, refl, sym, ap, ap₂, ◌∙◌, subst, arith, append_assoc, append-nil}
+use Rattle.std.proofs.Common.{◌≡◌, ◌⊎◌, inl, inr, ℕ, suc, ◌+◌, ◌-◌, ◌<◌, Bool, true, false, ◌&&◌, ◌||◌, List, [], ◌∷◌, ◌++◌, length, take, drop, slice_index_or, Option, Some, None, refl, sym, ap, ap₂, ◌∙◌, subst, append_assoc, take_all, arith}
 use Rattle.std.proofs.lemmas.Bool.{ltb-true, ltb-false, lt-ltb, and_parts, and_right, cond_both, false_from_ne_true}
 use Rattle.std.proofs.lemmas.List.Folds.{list_any-append}
-use Rattle.std.proofs.lemmas.List.{take_all}
 use Rattle.std.proofs.Math.Bool.{or-false, and_comm, or_assoc, or_comm, or-and_distrib_left}
 use Rattle.least_table.specs.BestHops.{Of, AreMerged}
 use Rattle.least_table.specs.HopSets.{is_same_hop, holds, meets}
@@ -163,12 +162,6 @@ common_end low high out [] b e h = record { rising = front_rises out [] h.low_ri
 common_end low high out (x ∷ a) [] e h = record { rising = front_rises out [] h.high_rises; same = λ k. sym (h.same k ∙ ap (λ u. holds out k || u) (and_right (holds (x ∷ a) k) false refl) ∙ or-false (holds out k)) }
 common_end low high out (x ∷ a) (y ∷ b) (inl e) h = absurd (omega (arith, e))
 common_end low high out (x ∷ a) (y ∷ b) (inr e) h = absurd (omega (arith, e))
-
-pub all_end : (low high out a b : List (Option ℕ)) → (length a ≡ 0) ⊎ (length b ≡ 0) → AllLeft low high out a b → AreAll low high ((out ++ a) ++ b)
-all_end low high out [] b e h = rw (append-nil out) (record { rising = h.high_rises; same = λ k. list_any-append (λ j. is_same_hop k j) out b ∙ sym (h.same k) })
-all_end low high out (x ∷ a) [] e h = rw (append-nil (out ++ x ∷ a)) (record { rising = h.low_rises; same = λ k. list_any-append (λ j. is_same_hop k j) out (x ∷ a) ∙ sym (h.same k ∙ ap (λ u. holds out k || u) (or-false (holds (x ∷ a) k))) })
-all_end low high out (x ∷ a) (y ∷ b) (inl e) h = absurd (omega (arith, e))
-all_end low high out (x ∷ a) (y ∷ b) (inr e) h = absurd (omega (arith, e))
 
 -- what the two make of the best hops of both halves
 pub common_merged : (as' bs cs : List (Option ℕ)) → AreCommon as' bs cs → (length cs ≡ 0 → ⊥) → AreMerged (Of as') (Of bs) (Of cs)

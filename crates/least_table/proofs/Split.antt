@@ -1,8 +1,8 @@
 -- A table as the route of the whole block and the tables of the halves.
-use Rattle.std.proofs.Common.{◌≡◌, ℕ, suc, ◌<◌, Bool, true, false, cond, List, [], ◌∷◌, ◌++◌, length, nat_lt, Option, Some, None, refl, ap, ◌∙◌, arith, inl, inr, map}
+use Rattle.std.proofs.Common.{◌≡◌, ℕ, suc, Bool, true, false, cond, List, [], ◌∷◌, ◌++◌, length, nat_lt, Option, Some, None, refl, ap, ◌∙◌, arith, inl, inr, map}
 use Rattle.std.proofs.lemmas.Bool.{ltb-true, ltb-false, lt-ltb, le-ltb, cases_Bool}
 use Rattle.ipnet_blocks.specs.BitStrings.{begins}
-use Rattle.least_table.specs.Tables.{Absent, IsBitTable, half, inside, longer_route, longest_route, matched_hop, hop_inheriting, own, passed, within}
+use Rattle.least_table.specs.Tables.{Absent, IsBitTable, half, inside, longer_route, longest_route, matched_hop, hop_inheriting, own, passed}
 
 abbrev pub lifted : Bool → Option (Option ℕ) → Option (List Bool × Option ℕ) → Option (List Bool × Option ℕ)
 lifted b o (Some r) = Some (b ∷ r.0, r.1)
@@ -117,8 +117,3 @@ Absent-joined l r = Absent-append [] (inside false l) (inside true r) (Absent-ma
 
 pub own-joined : (l r : List (List Bool × Option ℕ)) → own (joined l r) ≡ None
 own-joined l r = own-absent (joined l r) (Absent-joined l r)
-
-pub own-within : (ds : List Bool) (t : List (List Bool × Option ℕ)) → 0 < length ds → own (within ds t) ≡ None
-own-within [] t l = absurd (omega (arith, l))
-own-within (b ∷ ds) [] l = refl
-own-within (b ∷ ds) (r ∷ t) l = own-within (b ∷ ds) t l

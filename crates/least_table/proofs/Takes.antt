@@ -1,6 +1,6 @@
 -- The steps of the plan of a block are taken: those of its halves, or of the smaller block, stand before its own.
-use Rattle.std.proofs.Common.{◌≡◌, ℕ, suc, ◌+◌, Bool, true, false, cond, not, ◌&&◌, List, [], ◌∷◌, ◌++◌, length, map, reverse, Option, refl, sym, ap, ap₂, ◌∙◌, subst, arith, append_assoc, append-nil, length-append}
-use Rattle.std.proofs.lemmas.List.{reverse-append, reverse-reverse}
+use Rattle.std.proofs.Common.{◌≡◌, ℕ, suc, ◌+◌, Bool, true, false, cond, not, ◌&&◌, List, [], ◌∷◌, ◌++◌, length, map, Option, refl, sym, ap, ap₂, ◌∙◌, subst, arith, append_assoc, append-nil, length-append}
+use Rattle.std.proofs.lemmas.List.{same_from_push}
 use Rattle.least_table.specs.BestHops.{Of, passed_on}
 use Rattle.least_table.specs.HopSets.{is_same_hop, holds}
 use Rattle.least_table.specs.Pieces.{strings}
@@ -17,17 +17,9 @@ use Rattle.least_table.proofs.Packed.{popped, kept_popped}
 use Rattle.least_table.proofs.Stores.{within-halves}
 use Rattle.least_table.proofs.Tops.{below, top_best, top_last}
 
--- two lists with the same end
-pub same_ends : {X : Type 0} (xs ys : List X) (x y : X) → xs ++ x ∷ [] ≡ ys ++ y ∷ [] → (xs ≡ ys) × (x ≡ y)
-same_ends xs ys x y e =
-    let f : x ∷ reverse xs ≡ y ∷ reverse ys = sym (reverse-append xs (x ∷ [])) ∙ ap reverse e ∙ reverse-append ys (y ∷ []) in
-    let g : reverse xs ≡ reverse ys = cc in
-    let h : x ≡ y = cc in
-    (sym (reverse-reverse xs) ∙ ap reverse g ∙ reverse-reverse ys, h)
-
 -- the last step is that of the block
 pub last_taken : (xs : List Step) (old left : Steps) (x : Step) (p : LeastPlan) → steps_in old ≡ steps_in left ++ x ∷ [] → steps_in old ≡ xs ++ steps_of p → (steps_in left ≡ xs ++ below p) × (x ≡ top p)
-last_taken xs old left x p e f = same_ends (steps_in left) (xs ++ below p) x (top p) (sym e ∙ f ∙ ap (λ t. xs ++ t) (top_last p) ∙ sym (append_assoc xs (below p) (top p ∷ [])))
+last_taken xs old left x p e f = same_from_push (steps_in left) (xs ++ below p) x (top p) (sym e ∙ f ∙ ap (λ t. xs ++ t) (top_last p) ∙ sym (append_assoc xs (below p) (top p ∷ [])))
 
 -- a plan has steps
 pub never_empty : (xs : List Step) (p : LeastPlan) (s : Steps) → steps_in s ≡ xs ++ steps_of p → s.steps ≡ [] → ⊥

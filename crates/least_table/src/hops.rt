@@ -179,7 +179,7 @@ fn merge_lists(alloc: Global, low: &[Option<u32>], high: &[Option<u32>]) -> Resu
 }
 
 /// The hops in both lists, or all hops of both lists if they have none in common. Most lists have one hop: then it does not allocate if
-/// the other list contains this hop, or has one hop too.
+/// the other list contains this hop, or has one hop too. Both lists must ascend.
 pub fn merge(alloc: Global, low: &[Option<u32>], high: &[Option<u32>]) -> Result<Hops, AllocError>
     requires low_rises { IsRising low.now }
     requires high_rises { IsRising high.now }

@@ -1,5 +1,5 @@
 //! The plan of a sequence of pieces.
-ghost use Rattle.std.specs.Prelude.{◌≡◌, ◌<◌, ◌≤◌, ◌++◌, ◌∷◌, [], ℕ, AllPairs, Bool, IfOk, IsTrue, List, MatchOption, OnOk, length, reverse, true};
+ghost use Rattle.std.specs.Prelude.{◌≡◌, ◌≤◌, ◌++◌, ◌∷◌, [], ℕ, AllPairs, Bool, IfOk, IsTrue, List, MatchOption, OnOk, length, reverse, true};
 ghost use Rattle.std.specs.declared.cmp.Ordering.TheVariants.{Less};
 ghost use Rattle.ipnet_blocks.specs.BitStrings.{bits_cmp};
 ghost use Rattle.least_table.specs.Pieces.{AreDisjoint, piece_hop, strings};

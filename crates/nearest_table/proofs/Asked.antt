@@ -1,6 +1,5 @@
 -- What a table has in a block, by the list of its routes.
-use Rattle.std.proofs.Common.{◌≡◌, ℕ, suc, Bool, true, false, cond, not, ◌↔◌, List, [], ◌∷◌, ◌++◌, length, nat_lt, Option, Some, None, refl, sym, ap, ap₂, ◌∙◌, arith}
-use Rattle.std.proofs.lemmas.Bool.{lt-ltb, le-ltb, ltb-true, ltb-false}
+use Rattle.std.proofs.Common.{◌≡◌, ℕ, suc, Bool, true, false, cond, not, ◌↔◌, List, [], ◌∷◌, ◌++◌, length, nat_lt, Option, Some, None, refl, sym, ap, ap₂, ◌∙◌, lt-ltb, le-ltb, ltb-true, ltb-false, arith}
 use Rattle.nearest_table.specs.Asked.{AskedLaw, NoneHolds, NoneInside, at, hop_if, shorter}
 use Rattle.least_table.specs.Nearest.{same_string}
 use Rattle.least_table.specs.Wholes.{without_own}

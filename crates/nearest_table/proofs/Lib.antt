@@ -7,5 +7,4 @@ pub mod NewOrders
 pub mod Puts
 pub mod Coverings
 pub mod Asked
-pub mod Rows
 pub mod Stays

@@ -1,5 +1,6 @@
 -- The edits of plans are those between the installed table and the new one.
-use Rattle.std.proofs.Common.{◌≡◌, ℕ, suc, Bool, true, false, cond, not, List, [], ◌∷◌, ◌++◌, length, map, is_some, Option, Some, None, refl, sym, ap, ap₂, ◌∙◌, subst, arith}
+use Rattle.std.proofs.Common.{◌≡◌, ℕ, suc, Bool, true, false, cond, not, List, [], ◌∷◌, ◌++◌, map, is_some, Option, Some, None, refl, sym, ap, ap₂, ◌∙◌, subst, arith}
+use Rattle.std.proofs.lemmas.List.{nil_from_length}
 use Rattle.std.proofs.lemmas.List.Elements.{filter-append}
 use Rattle.nearest_table.specs.Edits.{AreEdits, blocks, installed_in, removed_in}
 use Rattle.least_table.specs.Orders.{ComesBeforeAll, IsInOrder}
@@ -110,15 +111,11 @@ surplus-with o [] u e = refl
 surplus-with o (([], k) ∷ t) u e = cc
 surplus-with o ((b ∷ c, k) ∷ t) u e = ap₂ (λ v us. cond (not v) ((b ∷ c, k) ∷ us) us) (stores-half (with_own o u) b c ∙ ap (λ l. stores l c) (half-with o u b) ∙ sym (stores-half u b c)) (surplus-with o t u e)
 
-empty : {X : Type 0} (xs : List X) → length xs ≡ 0 → xs ≡ []
-empty [] e = refl
-empty (x ∷ xs) e = absurd (omega (arith, e))
-
 none_missing : (w : ℕ) (t : List (List Bool × Option ℕ)) → IsBitTable w t → missing_routes t t ≡ []
-none_missing w t h = empty (missing_routes t t) (omega (arith, distance-self w t h))
+none_missing w t h = nil_from_length (missing_routes t t) (omega (arith, distance-self w t h))
 
 none_left : (w : ℕ) (t : List (List Bool × Option ℕ)) → IsBitTable w t → surplus_routes t t ≡ []
-none_left w t h = empty (surplus_routes t t) (omega (arith, distance-self w t h))
+none_left w t h = nil_from_length (surplus_routes t t) (omega (arith, distance-self w t h))
 
 -- ---- edits
 
@@ -140,12 +137,12 @@ removed-in b [] = refl
 removed-in b ((c, Some k) ∷ es) = removed-in b es
 removed-in b ((c, None) ∷ es) = ap (λ u. (b ∷ c) ∷ u) (removed-in b es)
 
-installed-append : (es fs : List (List Bool × Option (Option ℕ))) → installed_in (es ++ fs) ≡ installed_in es ++ installed_in fs
+pub installed-append : (es fs : List (List Bool × Option (Option ℕ))) → installed_in (es ++ fs) ≡ installed_in es ++ installed_in fs
 installed-append [] fs = refl
 installed-append ((c, Some k) ∷ es) fs = ap (λ u. (c, k) ∷ u) (installed-append es fs)
 installed-append ((c, None) ∷ es) fs = installed-append es fs
 
-removed-append : (es fs : List (List Bool × Option (Option ℕ))) → removed_in (es ++ fs) ≡ removed_in es ++ removed_in fs
+pub removed-append : (es fs : List (List Bool × Option (Option ℕ))) → removed_in (es ++ fs) ≡ removed_in es ++ removed_in fs
 removed-append [] fs = refl
 removed-append ((c, Some k) ∷ es) fs = removed-append es fs
 removed-append ((c, None) ∷ es) fs = ap (λ u. c ∷ u) (removed-append es fs)

@@ -3,12 +3,11 @@ ghost use Rattle.std.specs.Prelude.{◌≡◌, ◌-◌, ◌+◌, ◌≤◌, ◌+
 ghost use Rattle.nearest_table.specs.Changed.{AreInside, MakeNearest};
 ghost use Rattle.least_table.specs.Orders.{IsInOrder};
 ghost use Rattle.nearest_table.specs.InnerPlans.{Fits, HasMore, IsFork, IsTold, IsJoined, Plans, owned_tree, tree_of};
-ghost use Rattle.nearest_table.specs.Plans.{IsPlan, tree_best, edits_of};
+ghost use Rattle.nearest_table.specs.Plans.{tree_best, edits_of};
 ghost use Rattle.least_table.specs.BestHops.{passed_on};
 ghost use Rattle.nearest_table.specs.Settled.{passed_by, settled, settled_held};
 ghost use Rattle.least_table.specs.Tables.{IsBitTable, own, passed, within};
 ghost use Rattle.nearest_table.specs.Blocks.{inner, innermost_route};
-ghost use Rattle.nearest_table.specs.Told.{new_hop};
 ghost use Rattle.nearest_table.specs.Wanted.{Rises, hops_from};
 ghost use Rattle.nearest_table.specs.declared.plans.Plan as Plan;
 
@@ -274,7 +273,7 @@ fn hop_or(route: Option<Option<u32>>, other: Option<u32>) -> Option<u32>
 /// Returns the edits that turn the installed table into a nearest one with the new hops. An edit is a block with the hop to install, or
 /// with none if its route is removed. The blocks to install ascend, and so do those whose routes are removed. Each address gets the hop
 /// of the longest change that contains it, and keeps its old hop if none does. No fewer edits do this. All changes must be inside the
-/// block.
+/// block, the installed routes must ascend, and the addresses of both have one width, at most 128 bits.
 ///
 /// # Errors
 /// `AllocError` if an allocation fails.

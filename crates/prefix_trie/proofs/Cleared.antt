@@ -1,8 +1,7 @@
 -- Keys as numbers of 128 bits: shifted to the top, and with zeros after their first bits.
-use Rattle.std.proofs.Common.{◌≡◌, ℕ, ◌+◌, ◌-◌, ◌*◌, ◌/◌, ◌%◌, ◌^◌, ◌<◌, ◌≤◌, Bool, true, List, length, take, refl, sym, ap, subst, ◌∙◌, arith}
+use Rattle.std.proofs.Common.{◌≡◌, ℕ, ◌+◌, ◌-◌, ◌*◌, ◌/◌, ◌%◌, ◌^◌, ◌<◌, ◌≤◌, Bool, true, List, length, take, refl, sym, ap, subst, ◌∙◌, length-take, arith}
 use Rattle.std.proofs.lemmas.Nat.{pow_pos, pow-add, shl-shr, shr-shr, shr_split}
 use Rattle.std.proofs.Math.Nat.{mod-eq_of_lt, pow-le-pow_right, mul-lt-mul_of_pos_right}
-use Rattle.std.proofs.Math.ListN.{length-take}
 use Rattle.trie_core.specs.Bits.{number_from}
 use Rattle.ipnet_blocks.specs.BitStrings.{begins}
 use Rattle.trie_core.proofs.Numbers.{number_apart}

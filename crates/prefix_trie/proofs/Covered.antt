@@ -1,8 +1,5 @@
 -- The addresses that keys cover, counted in the order of a walk.
-use Rattle.std.proofs.Common.{◌≡◌, ℕ, zero, suc, ◌+◌, ◌-◌, ◌^◌, ◌<◌, ◌≤◌, Bool, true, false, cond, not, ◌&&◌, ◌||◌, List, [], ◌∷◌, length, refl, sym, ap, ◌∙◌, arith}
-use Rattle.std.specs.Prelude.{T, Option, Some, None, MatchOption, option_map}
-use Rattle.std.specs.declared.cmp.Ordering.TheVariants.{Less}
-use Rattle.std.proofs.lemmas.Nat.{pow_pos}
+use Rattle.std.proofs.Common.{◌≡◌, ℕ, zero, suc, ◌+◌, ◌-◌, ◌^◌, ◌<◌, ◌≤◌, Bool, true, false, cond, not, ◌&&◌, ◌||◌, List, [], ◌∷◌, length, refl, sym, ap, ◌∙◌, T, Option, Some, None, MatchOption, option_map, Less, pow_pos, arith}
 use Rattle.std.specs.FinMap.{is_sorted}
 use Rattle.std.specs.FinMap.Entries.{below_all}
 use Rattle.std.proofs.lemmas.Bool.{both_ways}
@@ -13,9 +10,6 @@ use Rattle.trie_core.proofs.Order.{less_trans}
 use Rattle.prefix_trie.specs.Covered.{count_strings, is_begun}
 
 -- ---- strings that pass a test
-
-one : Bool → ℕ
-one b = cond b 1 0
 
 pub count_sum : (w : ℕ) (p q r : List Bool → Bool) → ((s : List Bool) → cond (p s) 1 0 ≡ cond (q s) 1 0 + cond (r s) 1 0) → count_strings w p ≡ count_strings w q + count_strings w r
 unfolding count_strings

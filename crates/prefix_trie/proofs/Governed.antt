@@ -1,6 +1,5 @@
 -- The longest match of what a bit string governs.
-use Rattle.std.proofs.Common.{◌≡◌, ◌<◌, ◌≤◌, ◌+◌, ℕ, Bool, List, length, take, None, sym, ap, ◌∙◌, arith}
-use Rattle.std.proofs.lemmas.List.{length-take-le, take-take}
+use Rattle.std.proofs.Common.{◌≡◌, ◌<◌, ◌≤◌, ◌+◌, ℕ, Bool, List, length, take, None, sym, ap, ◌∙◌, length-take-le, take-take, arith}
 use Rattle.std.specs.FinMap.{get}
 use native.Mathlib.Decide.{dec_le}
 use Rattle.ipnet_blocks.proofs.BitStrings.{begins_take, take_begins}

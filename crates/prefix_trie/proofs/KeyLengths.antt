@@ -1,6 +1,5 @@
 -- How long the keys are that are left.
-use Rattle.std.proofs.Common.{ℕ, ◌≤◌, Bool, List, [], ◌∷◌, ap, ◌∙◌, arith, subst, sym}
-use Rattle.std.specs.Prelude.{is_some}
+use Rattle.std.proofs.Common.{ℕ, ◌≤◌, Bool, List, [], ◌∷◌, ap, ◌∙◌, subst, sym, is_some, arith}
 use Rattle.std.specs.FinMap.{entries, get-entries}
 use Rattle.std.specs.FinMap.Entries.{where_key}
 use Rattle.ipnet_blocks.specs.BitStrings.{bits_cmp}

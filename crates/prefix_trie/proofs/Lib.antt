@@ -11,5 +11,4 @@ pub mod Asked
 pub mod Within
 pub mod Spares
 pub mod Governed
-pub mod Rows
 pub mod Kept

@@ -1,7 +1,6 @@
 -- The key of a path, for the prefix of its bits.
-use Rattle.std.proofs.Common.{◌≡◌, ℕ, ◌+◌, ◌-◌, ◌*◌, ◌/◌, ◌^◌, ◌<◌, ◌≤◌, Bool, List, length, sym, ap, subst, ◌∙◌, arith}
+use Rattle.std.proofs.Common.{◌≡◌, ℕ, ◌+◌, ◌-◌, ◌*◌, ◌/◌, ◌^◌, ◌<◌, ◌≤◌, Bool, List, length, sym, ap, subst, ◌∙◌, mul_assoc, arith}
 use Rattle.std.proofs.lemmas.Nat.{pow-add, shl-shr, shr-shr, shr_below}
-use Rattle.std.proofs.Math.Nat.{mul_assoc}
 use Rattle.ipnet_blocks.specs.Blocks.{digits}
 use Rattle.trie_core.specs.Prefixes.{prefix_bits, IsMasked}
 

@@ -1,7 +1,5 @@
 -- The spare nodes of a map: where they may stand, how many they are, and that none comes where none was.
-use Rattle.std.proofs.Common.{◌≡◌, inl, inr, Bool, true, false, cond, not, List, [], ◌++◌, refl, sym, ap, ◌∙◌, arith}
-use Rattle.std.specs.Prelude.{Option, Some, None, is_some}
-use Rattle.std.specs.Option.{IsSome}
+use Rattle.std.proofs.Common.{◌≡◌, inl, inr, Bool, true, false, cond, not, List, [], ◌++◌, refl, sym, ap, ◌∙◌, Option, Some, None, is_some, IsSome, arith}
 use Rattle.std.specs.FinMap.{get, insert, len, empty, remove, get-empty, get-insert, get-remove, same_map}
 use Rattle.std.proofs.lemmas.Bool.{both_ways, cases_Bool}
 use Rattle.ipnet_addr.proofs.Basics.{none_some}

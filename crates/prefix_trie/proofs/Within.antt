@@ -1,8 +1,5 @@
 -- The keys inside a bit string stand together in the order of a walk.
-use Rattle.std.proofs.Common.{◌≡◌, ◌≤◌, Bool, true, false, cond, ◌&&◌, List, [], ◌∷◌, length, take, refl, sym, ap, ◌∙◌, arith, inl, inr}
-use Rattle.std.specs.Prelude.{T, Some, None}
-use Rattle.std.specs.declared.cmp.Ordering.TheVariants.{Less}
-use Rattle.std.specs.Ordering.{is_lt}
+use Rattle.std.proofs.Common.{◌≡◌, ◌≤◌, Bool, true, false, cond, ◌&&◌, List, [], ◌∷◌, length, take, refl, sym, ap, ◌∙◌, inl, inr, T, Some, None, Less, is_lt, append-nil, arith}
 use Rattle.std.specs.FinMap.{is_sorted}
 use Rattle.std.specs.FinMap.Entries.{where_key, below_all, is_sorted-where_key}
 use Rattle.std.proofs.lemmas.Bool.{false_from_ne_true, false≢true, not-true, cases_Bool}
@@ -15,7 +12,6 @@ use Rattle.trie_core.proofs.Frames.{where_twice}
 use Rattle.prefix_trie.specs.Maps.{first_key}
 use Rattle.prefix_trie.proofs.Asked.{not_after}
 use Rattle.trie_core.proofs.Order.{is_less}
-use Rattle.std.proofs.lemmas.List.{append-nil}
 use Rattle.ipnet_blocks.proofs.BitStrings.{begins_on}
 
 -- ---- strings

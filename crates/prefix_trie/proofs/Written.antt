@@ -1,8 +1,6 @@
 -- What an entry becomes as its value is written.
-use Rattle.std.proofs.Common.{◌≡◌, Bool, cond, List, refl, sym, ap, subst, ◌∙◌, arith}
-use Rattle.std.specs.Prelude.{Option, Some, None, MatchOption, is_some, IsTrue}
+use Rattle.std.proofs.Common.{◌≡◌, Bool, cond, List, refl, sym, ap, subst, ◌∙◌, Option, Some, None, MatchOption, is_some, IsTrue, IsSome, arith}
 use Rattle.std.specs.Ordering.{eq_by_cmp}
-use Rattle.std.specs.Option.{IsSome}
 use Rattle.std.specs.FinMap.{get, insert, get-insert, same_map}
 use mathlib.Core.Bool.{Bool-set}
 use denote.MutBor.{at_last}

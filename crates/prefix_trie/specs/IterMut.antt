@@ -1,6 +1,5 @@
 -- The state of a mutable iterator after each step.
-use Rattle.std.specs.Prelude.{◌≡◌, ◌&&◌, List, [], Bool, false, Option, None, OnSome, IfNone, MatchOption}
-use Rattle.std.specs.Option.{option_and_then}
+use Rattle.std.specs.Prelude.{◌≡◌, ◌&&◌, List, [], Bool, false, Option, None, OnSome, IfNone, MatchOption, option_and_then}
 use Rattle.std.specs.Borrow.{Fml, RattleType, MutBor, LendsSo}
 use Rattle.std.specs.FinMap.{get, entries}
 use Rattle.std.specs.FinMap.Entries.{where_key}

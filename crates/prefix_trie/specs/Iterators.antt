@@ -17,7 +17,3 @@ module _ {K : Type 0} (fits : K → Bool) (bits : K → List Bool) (of_bits : Li
   -- the same for a key with its value
   abbrev pub IsFirstEntry : {X G : Type 0} → (G → X) → List (List Bool × X) → K × G → List (List Bool × X) → Type 0
   IsFirstEntry value es p fs = (es ≡ (bits p.0, value p.1) ∷ fs) × (p.0 ≡ of_bits (bits p.0)) × IsTrue (fits p.0)
-
-  -- the first entry was returned, or nothing was left
-  abbrev pub GivesOwned : {X : Type 0} → List (List Bool × X) → Option (K × X) → List (List Bool × X) → Type 0
-  GivesOwned = GivesItem (IsFirstEntry (λ v. v))

@@ -1,7 +1,6 @@
 //! Copies of a map, and maps made from entries in any order.
-ghost use Rattle.std.specs.Prelude.{◌≡◌, List, IfOk, IfErr, IsTrue};
+ghost use Rattle.std.specs.Prelude.{◌≡◌, List, IfOk, IfErr, IsTrue, All};
 ghost use Rattle.std.specs.Iterator.{Drains, HoldsAlong, IsFinite};
-ghost use Rattle.std.specs.List.{All};
 ghost use Rattle.std.specs.FinMap as map;
 ghost use Rattle.prefix_trie.specs.Made.{inserted};
 ghost use Rattle.prefix_trie.specs.declared.refused.Refused.TheVariants.{Memory};

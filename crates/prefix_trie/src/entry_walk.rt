@@ -1,5 +1,5 @@
 //! The walks over entries that iterators are made of: in any direction, with borrowed or owned values.
-ghost use Rattle.std.specs.Prelude.{◌≡◌, List, [], Bool, refl};
+ghost use Rattle.std.specs.Prelude.{◌≡◌, List, [], Bool};
 ghost use Rattle.prefix_trie.specs.Iterators.{GivesFirst};
 
 use trie_core::{Cover, OwnedWalk, Path, Walk};

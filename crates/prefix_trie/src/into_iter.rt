@@ -1,15 +1,13 @@
 //! Iterators that own the entries of a map. They do not allocate, and drop the entries that they haven't returned.
-ghost use Rattle.std.specs.Prelude.{◌≡◌, ◌≤◌, map, IsTrue};
+ghost use Rattle.std.specs.Prelude.{◌≡◌, IsTrue};
 ghost use Rattle.std.specs.FinMap.{entries, keys, values};
 ghost use Rattle.std.specs.FinMap.Entries.{where_key};
 ghost use Rattle.ipnet_blocks.specs.BitStrings.{bits_cmp, begins};
-ghost use Rattle.trie_core.specs.InnerWalks.{KeysWithin};
 
 use crate::iterators::{IntoIter, IntoKeys, IntoValues};
 use crate::map::PrefixMap;
 use crate::prefix::{Prefix, path_of};
-use ipnet_addr::key::Key;
-use trie_core::{Node, OwnedWalk};
+use trie_core::OwnedWalk;
 
 impl<P: Prefix, T: Drop> IntoIterator for PrefixMap<P, T> {
     type Item = (P, T);
@@ -18,25 +16,15 @@ impl<P: Prefix, T: Drop> IntoIterator for PrefixMap<P, T> {
 
     ghost into_iter_gives = { λ m r. r ≡ entries m.entries };
 
-    /// Returns all entries, owned.
+    /// Returns all entries, owned, in the order of a walk.
     fn into_iter(self) -> IntoIter<P, T> {
         IntoIter::new(OwnedWalk::new(self.into_root()))
     }
 }
 
 impl<P: Prefix, T: Drop> PrefixMap<P, T> {
-    /// Returns the root node, where walks start, owned.
-    fn into_root(self) -> Node<T>
-        ensures map { result.entries ≡ self.entries }
-        ensures levels { result.levels ≤ 26 }
-        ensures keys { KeysWithin P.R.width (entries result.entries) }
-        ensures within { KeysWithin 128 (entries result.entries) }
-    {
-        let _width = <P::R as Key>::width();
-        self.root
-    }
-
-    /// Returns the entries whose keys the prefix contains, its own entry included, owned. The other entries are dropped.
+    /// Returns the entries whose keys the prefix contains, its own entry included, owned, in the order of a walk. The other entries are
+    /// dropped.
     #[tactic(auto, using(crate::proofs::KeyLengths::keys_where))]
     pub fn into_children(self, prefix: &P) -> IntoIter<P, T>
         requires { IsTrue (P.fits prefix.now) }

@@ -61,7 +61,7 @@ impl<P: Prefix, T> PrefixMap<P, T> {
         Iter::new(Walk::new(self.walked()))
     }
 
-    /// Returns the entries whose keys the prefix contains, its own entry included.
+    /// Returns the entries whose keys the prefix contains, its own entry included, in the order of a walk.
     ///
     /// # Examples
     /// In a map with the value 1 at `wide`, 10.0.0.0/8, and the value 2 at `inner`, 10.1.0.0/16:
@@ -94,7 +94,7 @@ impl<P: Prefix, T> PrefixMap<P, T> {
         Iter::new(Walk::onwards(self.walked(), path_of(prefix), inclusive))
     }
 
-    /// Returns all keys.
+    /// Returns all keys, in the order of a walk.
     ///
     /// # Examples
     /// In a map with 10.0.0.0/8 and two networks inside it; `is_key` compares a key with a text:

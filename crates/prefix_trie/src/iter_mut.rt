@@ -1,5 +1,5 @@
 //! Iterators that return mutable references to the values of a map, one at a time. They do not allocate.
-ghost use Rattle.std.specs.Prelude.{◌≡◌, ◌≤◌, length, false, true, [], ◌&&◌, IfSome, Some, MatchOption, option_map, IsTrue};
+ghost use Rattle.std.specs.Prelude.{◌≡◌, ◌≤◌, length, false, true, [], ◌&&◌, IfSome, Some, option_map, IsTrue};
 ghost use Rattle.std.specs.Borrow.{sem};
 ghost use Rattle.std.specs.Option.{IsSome, option_copied_mut};
 ghost use Rattle.std.specs.FinMap.{get, entries};

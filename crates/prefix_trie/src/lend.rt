@@ -1,7 +1,6 @@
 //! Mutable access to the value of the longest match.
-ghost use Rattle.std.specs.Prelude.{◌≡◌, ◌≤◌, ℕ, Some, length, take, MatchOption, IsTrue};
+ghost use Rattle.std.specs.Prelude.{◌≡◌, ◌≤◌, ℕ, Some, length, take, MatchOption, IsTrue, IsSome};
 ghost use Rattle.std.specs.Borrow.{sem};
-ghost use Rattle.std.specs.Option.{IsSome};
 ghost use Rattle.std.specs.FinMap as map;
 ghost use Rattle.trie_core.specs.Search.{NoBeginning, IsLongest};
 ghost use Rattle.prefix_trie.specs.Maps.{IsLongestKey};
@@ -34,7 +33,8 @@ impl<P: Prefix, T> PrefixMap<P, T> {
         }
     }
 
-    /// Returns the key of the first `len` bits of a prefix, which must be stored, and a mutable reference to its value.
+    /// Returns the key of the first `len` bits of a prefix, at most its length, and a mutable reference to its value. The key must be
+    /// stored.
     pub fn match_mut(&mut self, prefix: &P, len: u8) -> (P, &mut T)
         requires fits { IsTrue (P.fits prefix.now) }
         requires within { len ≤ length (P.bits prefix.now) }

@@ -1,11 +1,12 @@
 //! The map, its entries and its iterators.
-ghost use Rattle.std.specs.Prelude.{◌≡◌, ◌+◌, ◌/◌, ◌≤◌, length, take, None, Some, IfSome, IfOk, IfErr, IsOk, IsTrue, ◌↔◌, OnErr, OnOk, MatchOption, option_map};
+ghost use Rattle.std.specs.Prelude.{◌≡◌, ◌+◌, ◌/◌, ◌≤◌, length, None, Some, IfSome, IfOk, IfErr, IsOk, IsTrue, ◌↔◌, OnErr, OnOk, MatchOption, option_map};
 ghost use Rattle.std.specs.Borrow.{sem};
 ghost use Rattle.std.specs.Option.{IsSome, option_copied, option_copied_mut};
 ghost use Rattle.std.specs.FinMap as map;
 ghost use Rattle.trie_core.specs.Count.{nodes, node_visits, visit_count};
 ghost use Rattle.trie_core.specs.Ways.{AreIdle, off_way, IsPruned, IsKept};
 ghost use Rattle.trie_core.specs.Inside.{NothingInside};
+ghost use Rattle.trie_core.specs.InnerWalks.{KeysWithin};
 ghost use Rattle.trie_core.specs.Search.{IsLongest, NoBeginning};
 ghost use Rattle.prefix_trie.specs.Maps.{IsLongestKey, IsShortestKey};
 ghost use Rattle.prefix_trie.specs.Refusals.{no_room};
@@ -29,12 +30,23 @@ use trie_core::{Node, Path};
 /// As in the Rust crate prefix-trie 0.10.1, only these bits of a key are stored: returned keys have zeros after them. A map is tidy if it
 /// has no spare nodes, that is, nodes that lead to no entry. Every call but `remove_keep_tree` and `OccupiedEntry::remove` keeps a tidy
 /// map tidy. A map is `Send` or `Sync` if its keys and values are.
-#[derive(Drop)]
 pub struct PrefixMap<P: Prefix, T> {
     pub(crate) root: Node<T>,
     pub(crate) len: usize,
     pub(crate) nodes: usize,
     pub(crate) keys: PhantomData<P>,
+}
+
+/// A destructor of its own, so that a crate that drops a map doesn't check the destructors of the nodes again.
+impl<P: Prefix, T: Drop> Drop for PrefixMap<P, T> {
+    fn drop(self) {
+        let PrefixMap {
+            root: _,
+            len: _,
+            nodes: _,
+            keys: _,
+        } = self;
+    }
 }
 
 impl<P: Prefix, T> Model for PrefixMap<P, T> {
@@ -79,6 +91,23 @@ impl<P: Prefix, T> PrefixMap<P, T> {
             nodes: 1,
             keys: PhantomData,
         }
+    }
+
+    /// Returns the root node, where walks start, owned.
+    pub(crate) fn into_root(self) -> Node<T>
+        ensures map { result.entries ≡ self.entries }
+        ensures levels { result.levels ≤ 26 }
+        ensures keys { KeysWithin P.R.width (map.entries result.entries) }
+        ensures within { KeysWithin 128 (map.entries result.entries) }
+    {
+        let _width = <P::R as Key>::width();
+        let PrefixMap {
+            root,
+            len: _,
+            nodes: _,
+            keys: _,
+        } = self;
+        root
     }
 
     /// Returns the number of entries.

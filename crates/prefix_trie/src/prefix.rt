@@ -1,5 +1,5 @@
 //! Prefixes, seen as bit strings.
-ghost use Rattle.std.specs.Prelude.{◌≡◌, ℕ, ◌<◌, ◌≤◌, ◌^◌, ◌/◌, ◌-◌, List, Bool, true, nat_le, length, take, IsTrue, ◌↔◌};
+ghost use Rattle.std.specs.Prelude.{◌≡◌, ◌≤◌, ◌-◌, List, Bool, true, nat_le, length, take, IsTrue, ◌↔◌};
 ghost use Rattle.ipnet_blocks.specs.Blocks.{bit_string};
 ghost use Rattle.ipnet_blocks.specs.Networks.{block_of};
 ghost use Rattle.trie_core.specs.Bits.{number_from};

@@ -1,10 +1,9 @@
 //! The set, and its iterators.
-ghost use Rattle.std.specs.Prelude.{◌≡◌, ◌+◌, ◌<◌, ◌≤◌, ◌^◌, List, length, not, true, false, IfOk, IfErr, IsOk, IsTrue, ◌↔◌, OnErr, OnOk, MatchOption, map};
+ghost use Rattle.std.specs.Prelude.{◌≡◌, ◌+◌, ◌<◌, ◌≤◌, ◌^◌, List, length, not, true, false, IfOk, IfErr, IsOk, IsTrue, ◌↔◌, OnErr, OnOk, MatchOption, map, All};
 ghost use Rattle.std.specs.Cmp.{partial_equiv_from_equiv};
 ghost use Rattle.std.specs.FinMap as fin;
 ghost use Rattle.std.specs.FinMap.Entries.{where_key};
 ghost use Rattle.std.specs.Iterator.{Drains, HoldsAlong, IsFinite};
-ghost use Rattle.std.specs.List.{All};
 ghost use Rattle.std.specs.List.Retain.{IsFiltered};
 ghost use Rattle.trie_core.specs.Bits.{is_from};
 ghost use Rattle.ipnet_blocks.specs.BitStrings.{bits_cmp, begins};
@@ -256,7 +255,7 @@ impl<P: Prefix> PrefixSet<P> {
         Iter::of_entries(self.members.iter_from(prefix, inclusive))
     }
 
-    /// Returns the members that the prefix contains, itself included.
+    /// Returns the members that the prefix contains, itself included, in the order of a walk.
     ///
     /// # Examples
     /// In a set of `inner`, 10.1.0.0/16, and `wide`, 10.0.0.0/8:
@@ -489,7 +488,7 @@ impl<P: Prefix> IntoIterator for PrefixSet<P> {
 
     ghost into_iter_gives = { λ s r. r ≡ fin.keys s.entries };
 
-    /// Returns all members, owned.
+    /// Returns all members, owned, in the order of a walk.
     ///
     /// # Examples
     /// `set` has members of type `(u32, u8)`. This makes a number of the second bytes of their keys:

@@ -91,10 +91,6 @@ pub filter_map_swap : {A B : Type 0} (f : A → B) (p : B → Bool) (xs : List A
 filter_map_swap f p [] = refl
 filter_map_swap f p (x ∷ xs) = ap (λ ys. cond (p (f x)) (f x ∷ ys) ys) (filter_map_swap f p xs) ∙ cond_map f (p (f x)) x (filter (λ a. p (f a)) xs)
 
-pub map_append : {A B : Type 0} (f : A → B) (xs ys : List A) → map f (xs ++ ys) ≡ map f xs ++ map f ys
-map_append f [] ys = refl
-map_append f (x ∷ xs) ys = ap (λ zs. f x ∷ zs) (map_append f xs ys)
-
 -- members of a map
 pub In-map : {A B : Type 0} (f : A → B) (xs : List A) (y : B) → In y (map f xs) → (x : A) × In x xs × (y ≡ f x)
 In-map f [] y i = absurd i
@@ -105,3 +101,7 @@ pub map_In : {A B : Type 0} (f : A → B) (xs : List A) (x : A) → In x xs → 
 map_In f [] x i = absurd i
 map_In f (y ∷ xs) x (inl e) = inl (ap f e)
 map_In f (y ∷ xs) x (inr i) = inr (map_In f xs x i)
+
+pub map_same : {A B : Type 0} (f g : A → B) (xs : List A) → ((x : A) → In x xs → f x ≡ g x) → map f xs ≡ map g xs
+map_same f g [] h = refl
+map_same f g (x ∷ xs) h = let p = h x (inl refl) in let q = map_same f g xs (λ y i. h y (inr i)) in λ i. p i ∷ q i

@@ -1,5 +1,5 @@
 -- Choices as they are stored: one in each slot, and free slots after the last choice.
-use Rattle.std.specs.Prelude.{ℕ, zero, suc, Bool, true, false, List, [], ◌∷◌, Option, Some, None}
+use Rattle.std.specs.Prelude.{ℕ, zero, suc, Bool, true, List, [], ◌∷◌, Option, Some, None}
 use Rattle.route_choices.specs.Choices.{Choice, beats, same_hop}
 use Rattle.route_choices.specs.declared.slot.Kind.{Kind}
 use Rattle.route_choices.specs.declared.slot.Kind.TheVariants.{Free, Drop as OfDrop, Number as OfNumber}

@@ -122,7 +122,7 @@ impl Choices<8> {
 }
 
 impl<const CAPACITY: usize> Choices<CAPACITY> {
-    /// Makes a list of one choice.
+    /// Makes a list of one choice. `CAPACITY` must not be 0.
     ///
     /// # Examples
     /// ```rust

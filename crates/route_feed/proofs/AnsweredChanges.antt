@@ -1,6 +1,5 @@
 -- The lines of a change, by the blocks that the changed network governs.
-use Rattle.std.proofs.Common.{◌≡◌, ◌≢◌, ℕ, ◌⊎◌, inl, inr, ⊎_elim, Bool, true, false, not, ◌&&◌, cond, List, [], ◌∷◌, ◌++◌, map, Option, Some, None, Result, refl, sym, ap, ◌∙◌, subst}
-use Rattle.std.specs.Option.{option_map}
+use Rattle.std.proofs.Common.{◌≡◌, ◌≢◌, ℕ, ◌⊎◌, inl, inr, ⊎_elim, Bool, true, false, not, ◌&&◌, cond, List, [], ◌∷◌, ◌++◌, map, Option, Some, None, Result, refl, sym, ap, ◌∙◌, subst, option_map}
 use Rattle.std.proofs.lemmas.Bool.{false_from_ne_true, not_from_false}
 use Rattle.ipnet_addr.proofs.Members.{In}
 use Rattle.ipnet_addr.proofs.Ascending.{In-from_Contains, Contains-from_In}
@@ -20,7 +19,7 @@ use Rattle.route_lines.specs.declared.reply.Reply.TheVariants.{Close}
 use Rattle.route_choices.specs.declared.hop.Hop.{Hop}
 use Rattle.route_choices.specs.Choices.{Choice, AreChoices, choices_without, holds_hop}
 use Rattle.route_choices.proofs.ChoiceLists.{none_of}
-use Rattle.route_choices.proofs.Kept.{all_kept}
+use Rattle.route_choices.proofs.Kept.{all_kept, map_same}
 use Rattle.route_laws.specs.Changes.{changed, same_number}
 use Rattle.route_laws.specs.Flats.{Piece, IsFlat, flat_of}
 use Rattle.route_laws.proofs.FlatSearch.{search_is_flat}
@@ -42,10 +41,6 @@ use Rattle.route_program.specs.declared.error.RunError.{RunError}
 use Rattle.route_feed.specs.Replies.{printed}
 use Rattle.route_feed.specs.Steps.{change_line, change_lines, closed, is_too_many, may_refuse, accepted, step}
 use Rattle.route_program.specs.Devices.{Closes}
-
-map_same : {A B : Type 0} (f g : A → B) (xs : List A) → ((x : A) → In x xs → f x ≡ g x) → map f xs ≡ map g xs
-map_same f g [] h = refl
-map_same f g (x ∷ xs) h = let p = h x (inl refl) in let q = map_same f g xs (λ y i. h y (inr i)) in λ i. p i ∷ q i
 
 module _ (M N : List Route) where
   -- no hop has changed

@@ -1,8 +1,7 @@
 -- A beginning of an output, followed.
-use Rattle.std.proofs.Common.{◌≡◌, ℕ, ◌==◌, Bool, true, false, cond, List, [], ◌∷◌, ◌++◌, map, take, length, Option, Some, None, inl, inr, ⊎_elim, refl, sym, ap, ◌∙◌, subst, arith}
-use Rattle.std.specs.Prelude.{get_or}
+use Rattle.std.proofs.Common.{◌≡◌, ℕ, ◌==◌, Bool, true, false, cond, List, [], ◌∷◌, ◌++◌, map, take, length, Option, Some, None, inl, inr, ⊎_elim, refl, sym, ap, ◌∙◌, subst, get_or, append-nil, take_all, arith}
+use Rattle.route_table.proofs.FamilyMap.{no_networks}
 use Rattle.std.specs.List.{AllByRecursion, cons_option, filter_map}
-use Rattle.std.proofs.lemmas.List.{append-nil, take_all}
 use Rattle.std.proofs.lemmas.List.Elements.{filter_map-append}
 use Rattle.ipnet_addr.specs.Addresses.{Address, IsAddress}
 use Rattle.ipnet_addr.proofs.Members.{In-cases}
@@ -29,7 +28,7 @@ use Rattle.route_feed.specs.Streams.{Change, ends_well, committed, closings, pai
 use Rattle.route_feed.proofs.ReadNets.{piece_in_range}
 use Rattle.route_feed.proofs.Replies.{form_step}
 use Rattle.route_feed.proofs.PrintedLines.{AreClean, AreTold, IsClean, IsKept, IsTold, Keeps, closing_is_clean, closing_is_kept, each-append, each-first, read_again, reread}
-use Rattle.route_feed.proofs.Values.{AreInRange, all_closed, empty_is_table, nothing_left, taken}
+use Rattle.route_feed.proofs.Values.{AreInRange, all_closed, nothing_left, taken}
 
 -- ---- a beginning's lines
 
@@ -140,10 +139,10 @@ all_in_range bytes c i = ⊎_elim (lines_in_range (lines bytes) c) (end_in_range
 module _ (commands : List (Option Command)) (refusals : List Bool) (range : AreInRange commands) where
   -- what is read of the output
   output_read : replies_in (printed (replies [] commands refusals)) ≡ reread (replies [] commands refusals)
-  output_read = read_again (replies [] commands refusals) (replies_clean [] commands refusals empty_is_table range)
+  output_read = read_again (replies [] commands refusals) (replies_clean [] commands refusals no_networks range)
 
   lines_kept : AllByRecursion IsKept (replies [] commands refusals)
-  lines_kept = of_replies IsKept (λ l t. t.kept) closing_is_kept [] commands refusals empty_is_table range
+  lines_kept = of_replies IsKept (λ l t. t.kept) closing_is_kept [] commands refusals no_networks range
 
   -- the first of them are read of first lines
   first_again : (p q : List Reply) → p ++ q ≡ replies_in (printed (replies [] commands refusals))
@@ -153,13 +152,13 @@ module _ (commands : List (Option Command)) (refusals : List Bool) (range : AreI
       (k.first, k.later, k.split, subst (λ l. Same l k.first) (sym k.picked) (same_read k.first (each-first IsKept k.first k.later (subst (AllByRecursion IsKept) k.split lines_kept))))
 
   commands_answered : closings (replies_in (printed (replies [] commands refusals))) ≡ length commands
-  commands_answered = ap closings output_read ∙ (same_read (replies [] commands refusals) lines_kept).closings ∙ all_closed [] commands refusals empty_is_table range
+  commands_answered = ap closings output_read ∙ (same_read (replies [] commands refusals) lines_kept).closings ∙ all_closed [] commands refusals no_networks range
 
 pub followed : (bytes : List ℕ) (refusals : List Bool) (p q : List Reply) → p ++ q ≡ replies_in (output bytes refusals)
     → (x : Address) → IsAddress x → painted_hop (committed p) x ≡ hop_at (routes_of (table_after [] (take (closings p) (commands_of bytes)) refusals)) x
 followed bytes refusals p q e x a =
     let (first, later, split, same) = first_again (commands_of bytes) refusals (all_in_range bytes) p q e in
-    rw (same.committed, same.closings) (taken [] (commands_of bytes) refusals first later empty_is_table (all_in_range bytes) (sym split) x a)
+    rw (same.committed, same.closings) (taken [] (commands_of bytes) refusals first later no_networks (all_in_range bytes) (sym split) x a)
 
 pub commands_are_in_range : CommandsAreInRange
 commands_are_in_range bytes = All-from_In IsInRange (commands_of bytes) (all_in_range bytes)

@@ -1,7 +1,5 @@
 -- A follower that takes lines.
-use Rattle.std.proofs.Common.{◌≡◌, ℕ, inl, ⊎_elim, Bool, true, false, cond, List, [], ◌∷◌, ◌++◌, Option, Some, None, Result, Ok, Err, refl, sym, ap, ◌∙◌, subst, append_assoc}
-use Rattle.std.specs.Prelude.{IsSome}
-use Rattle.std.specs.List.{filter_map}
+use Rattle.std.proofs.Common.{◌≡◌, ℕ, inl, ⊎_elim, Bool, true, false, cond, List, [], ◌∷◌, ◌++◌, Option, Some, None, Result, Ok, Err, refl, sym, ap, ◌∙◌, subst, append_assoc, IsSome, filter_map}
 use Rattle.std.specs.Option.{option_to_list, option_map_or}
 use Rattle.std.proofs.lemmas.List.Elements.{All-nil, All-tail}
 use Rattle.ipnet_addr.specs.Addresses.{Address, IsAddress}

@@ -1,7 +1,5 @@
 -- What a follower has at the end of its input, and `follow` with it.
-use Rattle.std.proofs.Common.{◌≡◌, ℕ, inl, inr, ⊎_elim, Bool, true, false, cond, List, [], ◌∷◌, ◌++◌, map, Option, Some, None, Result, Ok, Err, refl, sym, ap, ◌∙◌, subst, append-nil}
-use Rattle.std.specs.List.{filter_map}
-use Rattle.std.specs.Prelude.{IfSome, IsSome, OnOk}
+use Rattle.std.proofs.Common.{◌≡◌, ℕ, inl, inr, ⊎_elim, Bool, true, false, cond, List, [], ◌∷◌, ◌++◌, map, Option, Some, None, Result, Ok, Err, refl, sym, ap, ◌∙◌, subst, append-nil, filter_map, IfSome, IsSome, OnOk}
 use Rattle.std.specs.Io.KnownBytes.{Appends}
 use Rattle.std.proofs.KnownBytes.{Consumes-whole}
 use Rattle.std.proofs.lemmas.List.Elements.{All-cons, All-nil}
@@ -146,7 +144,7 @@ module _ {R W : Type 0} (remaining : R → Option (List ℕ)) (from to : Counted
   pub reached : (left : Rest) → Runs Takes remaining a from old (Ok left) b to new → Reached remaining from to b × (new ≡ old)
   reached left x =
       let steps = subst (λ s. Followed s (lines_in x.bytes) b) new_follower (followed_all a b (lines_in x.bytes) old new x.ends.0) in (
-        record { bytes = x.bytes; read = x.read; replies = are_replies (lines x.bytes) steps.replies; hops = hops_are x.bytes b steps; at_end = x.ends.2; faults = x.ends.3 },
+        record { bytes = x.bytes; read = x.read; replies = are_replies (lines x.bytes) steps.replies; hops = hops_are x.bytes b steps; at_end = x.ends.2; faults = x.ends.3; fails = x.ends.4 },
         unwritten a b (lines_in x.bytes) old new (Ok tt) x.ends.0,
       )
 
@@ -169,10 +167,10 @@ module _ {R W : Type 0} (remaining : R → Option (List ℕ)) (contents : W → 
       end = x.0
 
       go : (k : Result Unit RunError) → Closes contents 1 old new k (followed end.bytes) → FollowEnds remaining contents from to old new k
-      go (Ok done) q = (record { bytes = end.bytes; read = end.read; holds = (end.replies, q) }, end.at_end, end.faults)
+      go (Ok done) q = (record { bytes = end.bytes; read = end.read; holds = (end.replies, q) }, end.at_end, end.faults, end.fails)
       go (Err e) q =
           subst (λ k. FollowEnds remaining contents from to old new (Err k)) (sym q.0)
-          (record { bytes = end.bytes; read = end.read; holds = (end.replies, q.1) }, end.at_end, end.faults)
+          (record { bytes = end.bytes; read = end.read; holds = (end.replies, q.1) }, end.at_end, end.faults, end.fails)
 
 -- where the reader tells its bytes
 pub follow_known : {R W : Type 0} (remaining : R → Option (List ℕ)) (contents : W → Option (List ℕ)) (from to : Counted R) (old new : Counted W) (r : Result Unit RunError) → FollowEnds remaining contents from to old new r

@@ -1,6 +1,6 @@
 -- Each line of an output is a reply line.
-use Rattle.std.proofs.Common.{◌≡◌, ◌≢◌, ◌==◌, ℕ, suc, ◌+◌, ◌≤◌, ◌<◌, ◌^◌, Bool, true, false, ◌&&◌, cond, List, [], ◌∷◌, ◌++◌, map, filter, length, All, Option, Some, None, refl, sym, ap, ◌∙◌, subst, inl, inr, arith, append_assoc}
-use Rattle.std.specs.Prelude.{IsSome, not, get_or}
+use Rattle.std.proofs.Common.{◌≡◌, ◌≢◌, ◌==◌, ℕ, suc, ◌+◌, ◌≤◌, ◌<◌, ◌^◌, Bool, true, false, ◌&&◌, cond, List, [], ◌∷◌, ◌++◌, map, filter, length, All, Option, Some, None, refl, sym, ap, ◌∙◌, subst, inl, inr, append_assoc, IsSome, not, get_or, arith}
+use Rattle.route_table.proofs.FamilyMap.{no_networks}
 use Rattle.std.proofs.lemmas.List.Elements.{All-nil, All-cons, All-head, All-tail, recursion_from_All}
 use Rattle.std.proofs.lemmas.List.{length-append, length-map}
 use Rattle.std.specs.Option.{option_map_or}
@@ -32,7 +32,7 @@ use Rattle.route_feed.proofs.Beginnings.{all_in_range, commands_of, first_lines,
 use Rattle.route_feed.proofs.PrintedLines.{AreClean, AreTold, IsSmall, first_line}
 use Rattle.route_feed.proofs.ReadLines.{of_replies, read_is}
 use Rattle.route_feed.proofs.Replies.{form_step}
-use Rattle.route_feed.proofs.Values.{AreInRange, empty_is_table}
+use Rattle.route_feed.proofs.Values.{AreInRange}
 
 -- ---- lines that spell what they print
 
@@ -191,6 +191,6 @@ pub beginnings_are_replies : BeginningsAreReplies
 beginnings_are_replies bytes front back refusals few e =
     let ls = replies [] (commands_of bytes) refusals in
     let (later, first) = first_lines front back in
-    let clean = replies_clean [] (commands_of bytes) refusals empty_is_table (all_in_range bytes) in
-    let spelled = replies_spelled [] (commands_of bytes) refusals empty_is_table (all_in_range bytes) (let n = few_commands bytes in omega (arith, n, few)) in
+    let clean = replies_clean [] (commands_of bytes) refusals no_networks (all_in_range bytes) in
+    let spelled = replies_spelled [] (commands_of bytes) refusals no_networks (all_in_range bytes) (let n = few_commands bytes in omega (arith, n, few)) in
     first_all (λ piece. IsSome (reply_of piece)) (lines front) later (subst AreReplies (ap lines e ∙ first) (printed_replies ls clean spelled))

@@ -1,12 +1,9 @@
 -- What a leader writes, as a function of the bytes and of the refusals.
-use Rattle.std.proofs.Common.{◌≡◌, ℕ, suc, ◌+◌, inl, inr, ⊎_elim, Bool, true, false, List, [], ◌∷◌, ◌++◌, length, map, take, Option, IfSome, Result, Ok, Err, refl, sym, ap, ◌∙◌, subst, append_assoc, append-nil, arith}
-use Rattle.std.specs.Result.{IsErr, OnOk}
+use Rattle.std.proofs.Common.{◌≡◌, ℕ, suc, ◌+◌, inl, inr, ⊎_elim, Bool, true, false, List, [], ◌∷◌, ◌++◌, length, map, take, Option, IfSome, Result, Ok, Err, refl, sym, ap, ◌∙◌, subst, append_assoc, append-nil, IsErr, OnOk, length-append, take_all, get_or, arith}
 use Rattle.std.specs.Io.KnownBytes.{Appends}
 use Rattle.std.proofs.KnownBytes.{Appends-trans, Consumes-whole}
 use Rattle.std.proofs.Math.Seq.{take-append_seam}
 use Rattle.std.proofs.lemmas.Grind.{flat_map-append}
-use Rattle.std.proofs.lemmas.List.{length-append, take_all}
-use Rattle.std.specs.Prelude.{get_or}
 use Rattle.route_lines.specs.Bytes.{rest}
 use Rattle.route_lines.specs.Lines.{lines_in, rest_of}
 use Rattle.route_lines.specs.declared.command.Command.{Command}
@@ -232,10 +229,11 @@ module _ {R W : Type 0} (remaining : R → Option (List ℕ)) (contents : W → 
               },
               x.ends.2,
               x.ends.3,
+              x.ends.4,
             )
         go (Err e) q h =
             subst (λ k. LeadEnds remaining contents from to old new (Err k)) (sym q.0)
-            (inr (record { bytes = x.bytes; read = x.read; holds = (replied.0, stopped_at_end contents x.bytes replied.0 old mid new (sym x.ends.1 ∙ h refl) replied.1 q.1) }, x.ends.2, x.ends.3))
+            (inr (record { bytes = x.bytes; read = x.read; holds = (replied.0, stopped_at_end contents x.bytes replied.0 old mid new (sym x.ends.1 ∙ h refl) replied.1 q.1) }, x.ends.2, x.ends.3, x.ends.4))
 
 -- where the reader tells its bytes
 pub lead_known : {R W : Type 0} (remaining : R → Option (List ℕ)) (contents : W → Option (List ℕ)) (from to : Counted R) (old new : Counted W) (r : Result Unit RunError) → LeadEnds remaining contents from to old new r

@@ -1,6 +1,5 @@
 pub mod AnsweredChanges
 pub mod Carried
-pub mod Owned
 pub mod LeadThen
 pub mod FollowLines
 pub mod FollowThen
@@ -19,4 +18,3 @@ pub mod Beginnings
 pub mod Grammar
 pub mod Rebuilt
 pub mod Restarted
-pub mod Rows

@@ -1,6 +1,5 @@
 -- What a line spells, and what a command's words may be: networks and hops in range.
-use Rattle.std.proofs.Common.{◌≡◌, ℕ, ◌^◌, ◌<◌, List, [], ◌∷◌, map, Option, Some, None, refl, sym, subst, arith}
-use Rattle.std.specs.Prelude.{unwrap_or}
+use Rattle.std.proofs.Common.{◌≡◌, ℕ, ◌^◌, ◌<◌, List, [], ◌∷◌, map, Option, Some, None, refl, sym, subst, unwrap_or, arith}
 use Rattle.ipnet_blocks.specs.Blocks.{IsBlock}
 use Rattle.ipnet_blocks.proofs.NetworkBlocks.{block_is}
 use Rattle.ipnet.specs.IpNets.{block, family, parts}

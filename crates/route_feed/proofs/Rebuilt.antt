@@ -1,5 +1,7 @@
 -- A leader that is given the lines that add the routes of a table.
 use Rattle.std.proofs.Common.{◌≡◌, ◌≢◌, ◌≤◌, inl, inr, ⊎_elim, Bool, true, false, cond, List, [], ◌∷◌, ◌++◌, drop, length, map, Some, refl, sym, ap, ◌∙◌, subst, append_assoc, append-nil, arith}
+use Rattle.route_table.proofs.FamilyMap.{no_networks}
+use Rattle.std.proofs.lemmas.Simd.{map-map}
 use Rattle.std.specs.List.{AllByRecursion}
 use Rattle.std.proofs.lemmas.List.{length-map}
 use Rattle.std.proofs.lemmas.List.Elements.{recursion_from_All}
@@ -29,9 +31,7 @@ use Rattle.route_feed.specs.Steps.{Answer, is_too_many, may_refuse, step}
 use Rattle.route_feed.specs.Streams.{committed, painted_hop, replies_in}
 use Rattle.route_feed.specs.Lines.{add_command}
 use Rattle.route_feed.proofs.Beginnings.{beginnings_agree}
-use Rattle.route_feed.proofs.Values.{empty_is_table}
 use Rattle.route_feed.proofs.WriteRoutes.{line_is}
-use Rattle.route_feed.proofs.Owned.{map_twice}
 use Rattle.route_feed.proofs.PrintedLines.{first_line, is_cut, word_hop}
 use Rattle.route_feed.proofs.ReadLines.{of_commands, read_is}
 use Rattle.route_feed.proofs.Splits.{rest_after}
@@ -117,7 +117,7 @@ lines_rebuild N n =
 
 -- its best routes are those of the table, with the default preference
 best_are : (N : List Route) → IsTable N → routes_of (table_given (add_lines N)) ≡ map (preferring default_preference) N
-best_are N n = ap routes_of (lines_rebuild N n) ∙ sym (map_twice best_route alone N)
+best_are N n = ap routes_of (lines_rebuild N n) ∙ map-map best_route alone N
 
 pub lines_keep_hops : LinesKeepHops
 lines_keep_hops h N has = subst (HasHops h) (sym (best_are N has.table)) (record {
@@ -140,4 +140,4 @@ no_routes [] h = refl
 no_routes (r ∷ N) h = absurd (omega (arith, h))
 
 pub no_hops_no_lines : NoHopsNoLines
-no_hops_no_lines bytes N none least = ap add_lines (no_routes N (least.fewest [] (record { table = routes_are_table [] empty_is_table; same = λ x a. sym (none x a) })))
+no_hops_no_lines bytes N none least = ap add_lines (no_routes N (least.fewest [] (record { table = routes_are_table [] no_networks; same = λ x a. sym (none x a) })))

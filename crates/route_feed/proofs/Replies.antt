@@ -1,5 +1,6 @@
 -- What each reply tells, and that it paints the hops of the table after it.
 use Rattle.std.proofs.Common.{◌≡◌, ◌==◌, ℕ, zero, suc, ◌<◌, ◌^◌, arith, inl, inr, Bool, true, false, ◌&&◌, cond, List, [], ◌∷◌, map, take, filter, Option, Some, None, MatchOption, refl, sym, ap, subst, ⊎_elim}
+use Rattle.std.proofs.lemmas.Simd.{map-map}
 use Rattle.std.specs.Option.{option_map_or}
 use Rattle.ipnet_addr.specs.Addresses.{Address, IsAddress, Ipv4, Ipv6}
 use Rattle.ipnet_addr.proofs.Members.{In}
@@ -27,7 +28,6 @@ use Rattle.route_laws.proofs.FlatSearch.{search_is_flat}
 use Rattle.route_laws.proofs.Matches.{AtLeast, best_of}
 use Rattle.route_laws.proofs.ChoiceChanges.{choices_have_one_hop}
 use Rattle.route_laws.proofs.Networks.{at_are, routes_are_table, stored_choices, with_choices_is}
-use Rattle.route_feed.proofs.Owned.{map_twice}
 use Rattle.route_feed.specs.Steps.{Answer, closed, listed, change_line, change_lines, changed_to, route_line, flat_line, is_too_many, may_refuse, accepted, step}
 use Rattle.route_feed.specs.Streams.{Change, change_of, is_done, painted_over}
 use Rattle.route_feed.specs.InnerReplies.{choice_line, own_line}
@@ -139,7 +139,7 @@ module _ (M : List Stored) (m : IsStoredTable M) where
   form_owned : (number : ℕ) → Form M (listed M (map own_line (blocks_of (filter (λ p. p.number == number) (flat_of (hop_at routes))))))
   form_owned number =
       let ps = filter (λ (p : Piece). p.number == number) (flat_of (hop_at routes)) in
-      subst (λ ls. Form M (listed M ls)) (map_twice own_line (λ (p : Piece). p.block) ps)
+      subst (λ ls. Form M (listed M ls)) (sym (map-map own_line (λ (p : Piece). p.block) ps))
       (form_pieces (λ p. own_line p.block) (λ p. refl) (λ p w. own_told p.block w.block) ps (λ p i. (In-from_filter _ (flat_of (hop_at routes)) p i).0))
 
   form_answer : (command : Option Command) → IsInRange command → is_too_many M command ≡ false → Form M (accepted M command)

@@ -1,6 +1,6 @@
 -- A leader that is given the lines that add the flat list of what was told in a beginning of an output.
-use Rattle.std.proofs.Common.{inl, inr, Bool, List, [], ◌∷◌, map, take, Option, refl, ap, ◌∙◌}
-use Rattle.std.specs.Prelude.{get_or, false}
+use Rattle.std.proofs.Common.{inl, inr, Bool, List, [], ◌∷◌, map, take, Option, refl, ap, ◌∙◌, get_or, false}
+use Rattle.route_table.proofs.FamilyMap.{no_networks}
 use Rattle.route_laws.specs.Changes.{route_for}
 use Rattle.route_laws.specs.Flats.{flat_of}
 use Rattle.route_laws.specs.Networks.{Stored, IsStoredTable, routes_of}
@@ -18,7 +18,7 @@ use Rattle.route_feed.specs.Streams.{closings, replies_in}
 use Rattle.route_feed.proofs.Beginnings.{all_in_range, commands_of, flat_lists_agree}
 use Rattle.route_feed.proofs.Rebuilt.{lines_keep_hops}
 use Rattle.route_feed.proofs.Replies.{In-take, form_step}
-use Rattle.route_feed.proofs.Values.{AreInRange, empty_is_table}
+use Rattle.route_feed.proofs.Values.{AreInRange}
 
 -- a table of networks stays one after any commands
 after_is : (M : List Stored) (commands : List (Option Command)) (r : List Bool) → IsStoredTable M → AreInRange commands → IsStoredTable (table_after M commands r)
@@ -28,7 +28,7 @@ after_is M (c ∷ cs) r m h = after_is (step M c (get_or r 0 false)).next cs (re
 pub told_is_table : ToldIsTable
 told_is_table bytes front refusals =
     let n = closings (replies_in front) in
-    after_is [] (take n (commands_of bytes)) refusals empty_is_table (λ c i. all_in_range bytes c (In-take n (commands_of bytes) c i))
+    after_is [] (take n (commands_of bytes)) refusals no_networks (λ c i. all_in_range bytes c (In-take n (commands_of bytes) c i))
 
 pub restarted_agree : RestartedAgree
 restarted_agree bytes front back refusals e x a =

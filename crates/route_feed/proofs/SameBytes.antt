@@ -1,7 +1,6 @@
 -- Tables that print the same bytes for `flat`.
-use Rattle.std.proofs.Common.{inl, ◌≡◌, List, [], ◌∷◌, ◌++◌, map, Option, Some, None, refl, sym, ap, ◌∙◌, inr}
+use Rattle.std.proofs.Common.{inl, ◌≡◌, List, [], ◌∷◌, ◌++◌, map, Option, Some, None, refl, sym, ap, ◌∙◌, inr, ◌↔◌}
 use Rattle.std.specs.List.{filter_map, cons_option}
-use Rattle.std.specs.Prelude.{◌↔◌}
 use Rattle.ipnet_addr.specs.Addresses.{Address, IsAddress}
 use Rattle.ipnet_addr.proofs.Members.{In}
 use Rattle.ipnet_addr.proofs.Ascending.{Contains-from_In}

@@ -1,6 +1,5 @@
 -- What `shorten` has at the end of its input.
-use Rattle.std.proofs.Common.{◌≡◌, ℕ, inl, inr, ⊎_elim, List, Option, IfSome, Result, Ok, Err, sym, subst}
-use Rattle.std.specs.Result.{OnOk}
+use Rattle.std.proofs.Common.{◌≡◌, ℕ, inl, inr, ⊎_elim, List, Option, IfSome, Result, Ok, Err, sym, subst, OnOk}
 use Rattle.std.proofs.KnownBytes.{Consumes-whole}
 use Rattle.route_lines.specs.Bytes.{lines}
 use Rattle.route_laws.specs.LeastTables.{IsLeast}
@@ -44,10 +43,10 @@ module _ {R W : Type 0} (remaining : R → Option (List ℕ)) (contents : W → 
         is_least = least_too (hop_at (routes_of b.table)) (painted_hop (committed (replies_in end.bytes))) end.hops routes least
 
         go : (k : Result Unit RunError) → Delivers contents old new k (add_lines routes) → ShortenEnds remaining contents from to old new k
-        go (Ok done) q = (record { bytes = end.bytes; read = end.read; holds = (end.replies, (routes, is_least, q)) }, end.at_end, end.faults)
+        go (Ok done) q = (record { bytes = end.bytes; read = end.read; holds = (end.replies, (routes, is_least, q)) }, end.at_end, end.faults, end.fails)
         go (Err e) q =
             subst (λ k. ShortenEnds remaining contents from to old new (Err k)) (sym q.0)
-            (record { bytes = end.bytes; read = end.read; holds = (end.replies, (routes, is_least, q.1)) }, end.at_end, end.faults)
+            (record { bytes = end.bytes; read = end.read; holds = (end.replies, (routes, is_least, q.1)) }, end.at_end, end.faults, end.fails)
 
 -- where the reader tells its bytes
 pub shorten_known : {R W : Type 0} (remaining : R → Option (List ℕ)) (contents : W → Option (List ℕ)) (from to : Counted R) (old new : Counted W) (r : Result Unit RunError) → ShortenEnds remaining contents from to old new r

@@ -1,8 +1,7 @@
 -- The first reply lines of a leader, followed, as values.
-use Rattle.std.proofs.Common.{◌≡◌, suc, Bool, true, false, cond, List, [], ◌∷◌, ◌++◌, take, length, Option, Some, None, refl, sym, ap, ◌∙◌, subst, ◌⊎◌, inl, inr, ⊎_elim, append_assoc}
-use Rattle.std.specs.Prelude.{get_or}
+use Rattle.std.proofs.Common.{◌≡◌, suc, Bool, true, false, cond, List, [], ◌∷◌, ◌++◌, take, length, Option, Some, None, refl, sym, ap, ◌∙◌, subst, ◌⊎◌, inl, inr, ⊎_elim, append_assoc, get_or, option_to_list}
+use Rattle.route_table.proofs.FamilyMap.{no_networks}
 use Rattle.std.specs.List.{cons_option}
-use Rattle.std.specs.Option.{option_to_list}
 use Rattle.std.proofs.lemmas.List.Elements.{All-nil}
 use Rattle.ipnet_addr.specs.Addresses.{Address, IsAddress}
 use Rattle.ipnet_addr.proofs.Members.{In}
@@ -109,16 +108,8 @@ taken M (c ∷ cs) r p q m h e x a =
     ∙ ih)))
     (split_at_closing p q t.body t.closing tail open_lines (e ∙ append_assoc t.body (Close t.closing ∷ []) tail))
 
-pub empty_is_table : IsStoredTable []
-empty_is_table = record {
-  blocks = All-nil (λ (s : Stored). IsBlock s.block);
-  some = All-nil (λ (s : Stored). s.choices ≡ [] → ⊥);
-  choices = All-nil (λ (s : Stored). AreChoices s.choices);
-  ascending = pairs_from_Rising (λ (s t : Stored). IsBefore s.block t.block) [] tt;
-}
-
 pub lines_agree : LinesAgree
-lines_agree commands r front back h e x a = taken [] commands r front back empty_is_table (In-from_All IsInRange commands h) (sym e) x a
+lines_agree commands r front back h e x a = taken [] commands r front back no_networks (In-from_All IsInRange commands h) (sym e) x a
 
 -- each command is answered by one closing line
 pub all_closed : (M : List Stored) (commands : List (Option Command)) (r : List Bool) → IsStoredTable M → AreInRange commands → closings (replies M commands r) ≡ length commands

@@ -1,6 +1,5 @@
 -- The command lines that make a table of routes.
-use Rattle.std.specs.Prelude.{ℕ, List, ◌++◌, codes}
-use Rattle.std.specs.List.{flat_map}
+use Rattle.std.specs.Prelude.{ℕ, List, ◌++◌, codes, flat_map}
 use Rattle.ipnet.specs.IpNets.{network_at}
 use Rattle.ipnet.specs.IpNetText.{net_text}
 use Rattle.route_lines.specs.Texts.{hop_text}

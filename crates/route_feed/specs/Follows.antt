@@ -1,6 +1,5 @@
 -- The effect of `follow` on its devices, by its result.
-use Rattle.std.specs.Prelude.{◌≡◌, ℕ, List, [], ◌∷◌, ◌++◌, ◌⊎◌, Option, Some, Result, Ok, Err, IsSome, All, map}
-use Rattle.std.specs.List.{filter_map}
+use Rattle.std.specs.Prelude.{◌≡◌, ℕ, List, [], ◌∷◌, ◌++◌, ◌⊎◌, Option, Some, Result, Ok, Err, IsSome, All, map, filter_map}
 use Rattle.route_lines.specs.Bytes.{lines}
 use Rattle.route_lines.specs.Spelled.{reply_of}
 use Rattle.route_lines.specs.declared.reply.Closing.TheVariants.{Done}

@@ -1,5 +1,5 @@
 -- A follower that reads an input to its end.
-use Rattle.std.specs.Prelude.{◌≡◌, ℕ, List, ◌⊎◌, Option, Result, Ok, Err}
+use Rattle.std.specs.Prelude.{◌≡◌, ℕ, List, ◌⊎◌, Option, Result, Ok, Err, false}
 use Rattle.std.specs.Io.KnownBytes.{Consumes, IsAtEnd}
 use Rattle.ipnet_addr.specs.Addresses.{Address, IsAddress}
 use Rattle.route_lines.specs.Bytes.{lines}
@@ -23,6 +23,7 @@ module _ {R : Type 0} (remaining : R → Option (List ℕ)) where
     pub hops : (x : Address) → IsAddress x → hop_at (routes_of follower.table) x ≡ painted_hop (committed (replies_in bytes)) x
     pub at_end : IsAtEnd (remaining to.device)
     pub faults : to.faults ≡ from.faults
+    pub fails : to.failing ≡ false
 
   -- the reason why the end was not reached
   abbrev pub Stops : Counted R → Counted R → RunError → Type 0

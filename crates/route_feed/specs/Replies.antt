@@ -1,6 +1,5 @@
 -- Reply lines as bytes.
-use Rattle.std.specs.Prelude.{ℕ, List, ◌++◌, codes}
-use Rattle.std.specs.List.{flat_map}
+use Rattle.std.specs.Prelude.{ℕ, List, ◌++◌, codes, flat_map}
 use Rattle.route_lines.specs.Texts.{reply_text}
 use Rattle.route_lines.specs.declared.reply.Reply.{Reply}
 

@@ -1,6 +1,5 @@
 //! The parts of the output: the lines of a reply, and operations.
-ghost use Rattle.std.specs.Prelude.{◌≡◌, ⊤, List, map, take, All, IfSome};
-ghost use Rattle.std.specs.Option.{option_to_list};
+ghost use Rattle.std.specs.Prelude.{◌≡◌, ⊤, List, map, take, All, IfSome, option_to_list};
 ghost use Rattle.ipnet.specs.IpNets.{block, family, network_at, parts};
 ghost use Rattle.ipnet_blocks.specs.Networks.{IsTruncated};
 ghost use Rattle.route_feed.specs.InnerReplies.{GivesLine, choice_line, own_line};

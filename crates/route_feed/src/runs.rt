@@ -1,5 +1,5 @@
 //! The runs: each reads an input to its end, and writes the output of its lines.
-ghost use Rattle.std.specs.Prelude.{List, Bool, OnOk, IfSome};
+ghost use Rattle.std.specs.Prelude.{◌≤◌, ◌+◌, ◌^◌, List, Bool, OnOk, IfSome};
 ghost use Rattle.std.specs.Io.KnownBytes.{Appends};
 ghost use Rattle.route_program.specs.Counted.{CanRead, CanRun};
 ghost use Rattle.route_feed.specs.Follows.{AreReplies, FollowEnds, followed};
@@ -62,6 +62,7 @@ pub fn lead<R: Read, W: Write>(
 ) -> Result<(), RunError>
     requires { CanRun reader.old writer.old }
     ensures ends { LeadEnds R.remaining W.contents reader.old reader.new writer.old writer.new result }
+    ensures reads { reader.new.reads ≤ reader.old.reads + 2 ^ 62 }
     ensures known { OnOk result (IfSome (R.remaining reader.old.device) (λ bytes.
         (refusals : List Bool) × Appends (W.contents writer.old.device) (W.contents writer.new.device) (output bytes refusals))) }
 {
@@ -81,6 +82,7 @@ pub fn lead_then<R: Read, W: Write>(
 ) -> Result<(), RunError>
     requires { CanRun reader.old writer.old }
     ensures ends { LeadEnds R.remaining W.contents reader.old reader.new writer.old writer.new result }
+    ensures reads { reader.new.reads ≤ reader.old.reads + 2 ^ 62 }
     ensures known { OnOk result (IfSome (R.remaining reader.old.device) (λ bytes.
         (refusals : List Bool) × Appends (W.contents writer.old.device) (W.contents writer.new.device) (output bytes refusals))) }
 {
@@ -100,7 +102,8 @@ fn follow_all<R: Read, W: Write>(
     writer: &mut Counted<W>,
 ) -> Result<Follower, RunError>
     requires { CanRead reader.old }
-    ensures { Reaches R.remaining reader.old reader.new writer.old writer.new result }
+    ensures reaches { Reaches R.remaining reader.old reader.new writer.old writer.new result }
+    ensures reads { reader.new.reads ≤ reader.old.reads + 2 ^ 62 }
 {
     let mut buf = vec![in alloc; 0; INPUT_BUFFER]?;
     let mut follower = Follower::new(alloc)?;
@@ -149,6 +152,7 @@ pub fn follow<R: Read, W: Write>(
 ) -> Result<(), RunError>
     requires { CanRun reader.old writer.old }
     ensures ends { FollowEnds R.remaining W.contents reader.old reader.new writer.old writer.new result }
+    ensures reads { reader.new.reads ≤ reader.old.reads + 2 ^ 62 }
     ensures known { OnOk result (IfSome (R.remaining reader.old.device) (λ bytes.
         AreReplies (lines bytes) × Appends (W.contents writer.old.device) (W.contents writer.new.device) (followed bytes))) }
 {
@@ -167,6 +171,7 @@ pub fn follow_then<R: Read, W: Write>(
 ) -> Result<(), RunError>
     requires { CanRun reader.old writer.old }
     ensures ends { FollowEnds R.remaining W.contents reader.old reader.new writer.old writer.new result }
+    ensures reads { reader.new.reads ≤ reader.old.reads + 2 ^ 62 }
     ensures known { OnOk result (IfSome (R.remaining reader.old.device) (λ bytes.
         AreReplies (lines bytes) × Appends (W.contents writer.old.device) (W.contents writer.new.device) (followed bytes))) }
 {
@@ -218,6 +223,7 @@ pub fn shorten<R: Read, W: Write>(
 ) -> Result<(), RunError>
     requires { CanRun reader.old writer.old }
     ensures ends { ShortenEnds R.remaining W.contents reader.old reader.new writer.old writer.new result }
+    ensures reads { reader.new.reads ≤ reader.old.reads + 2 ^ 62 }
     ensures known { OnOk result (IfSome (R.remaining reader.old.device) (λ bytes.
         AreReplies (lines bytes) × AppendsLeast bytes (W.contents writer.old.device) (W.contents writer.new.device))) }
 {

@@ -5,7 +5,7 @@ ghost use Rattle.route_feed.specs.AddLines.{add_lines};
 ghost use Rattle.route_program.specs.Counted.{CanCount};
 ghost use Rattle.route_feed.specs.Replies.{printed};
 ghost use Rattle.route_feed.specs.Lines.{HaveNoHostBits};
-ghost use Rattle.route_program.specs.Devices.{Delivers, Writes, Closes};
+ghost use Rattle.route_program.specs.Devices.{Delivers, Closes};
 
 use crate::body::Body;
 use arrayvec::ArrayVec;

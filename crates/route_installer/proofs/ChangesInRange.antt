@@ -1,6 +1,5 @@
 -- The changes and the routes of notes are of blocks, and their hops are in range.
-use Rattle.std.proofs.Common.{◌≡◌, ℕ, ⊎_elim, List, [], ◌∷◌, ◌++◌, map, Option, None, Some, sym, subst, arith}
-use Rattle.std.specs.Option.{option_to_list}
+use Rattle.std.proofs.Common.{◌≡◌, ℕ, ⊎_elim, List, [], ◌∷◌, ◌++◌, map, Option, None, Some, sym, subst, option_to_list, arith}
 use Rattle.ipnet_addr.proofs.Members.{In}
 use Rattle.ipnet_addr.proofs.Ascending.{All-from_In}
 use Rattle.ipnet_blocks.specs.Blocks.{IsBlock}

@@ -1,6 +1,7 @@
 -- Whoever carries out a beginning of the output of an installer has one of two hops at each address.
-use Rattle.std.proofs.Common.{◌≡◌, ◌⊎◌, ℕ, suc, ◌+◌, Bool, true, false, cond, List, [], ◌∷◌, ◌++◌, map, filter, length, take, Option, Some, None, inl, inr, ⊎_elim, refl, sym, ap, ◌∙◌, subst, arith}
-use Rattle.std.specs.Prelude.{is_some}
+use Rattle.std.proofs.Common.{◌≡◌, ◌⊎◌, ℕ, suc, ◌+◌, Bool, true, false, cond, List, [], ◌∷◌, ◌++◌, map, filter, length, take, Option, Some, None, inl, inr, ⊎_elim, refl, sym, ap, ◌∙◌, subst, is_some, arith}
+use Rattle.route_laws.proofs.Runs.{no_haves}
+use Rattle.std.proofs.lemmas.List.{map-append}
 use Rattle.std.specs.List.{cons_option, filter_map}
 use Rattle.std.proofs.lemmas.List.Elements.{filter_map-append, filter-append}
 use Rattle.route_laws.proofs.Between.{after-append}
@@ -24,12 +25,8 @@ use Rattle.route_installer.proofs.CutLines.{Cut, batches_are_oks, ok_keeps, oks-
 use Rattle.route_installer.proofs.GivenLines.{carried_hops, first_of_map, lines_operations, only_operations}
 use Rattle.route_installer.proofs.KeptTable.{first_too, kept_agrees, kept_at_all_times}
 use Rattle.route_installer.proofs.LogNotes.{logs_are_first}
-use Rattle.route_installer.proofs.NotesInTurn.{events-append, haves-append, may_split, no_haves, replies_of-append}
+use Rattle.route_installer.proofs.NotesInTurn.{events-append, haves-append, may_split, replies_of-append}
 use Rattle.route_installer.proofs.SpelledLines.{output_reads_back}
-
-map_both : {A B : Type 0} (f : A → B) (xs ys : List A) → map f xs ++ map f ys ≡ map f (xs ++ ys)
-map_both f [] ys = refl
-map_both f (x ∷ xs) ys = ap (λ l. f x ∷ l) (map_both f xs ys)
 
 closings-append : (ls ms : List Reply) → closings (ls ++ ms) ≡ closings ls + closings ms
 closings-append [] ms = omega arith
@@ -87,7 +84,7 @@ module _ (bytes : List ℕ) (refusals : List Bool) where
         (In-cases U.Done (update_lines start first_events) c.begun (subst (In U.Done) c.lines has))
 
     haves_are : haves (events begin ns) ≡ haves first_events
-    haves_are = ap haves split ∙ haves-append first_events (events at c.later) [] ∙ no_haves (events at c.later) (after_events start first_events) (haves first_events) kept may_both.1
+    haves_are = ap haves split ∙ haves-append first_events (events at c.later) [] ∙ no_haves (haves first_events) (events at c.later) (after_events start first_events) kept may_both.1
 
     -- the lines make what these operations make of what was installed at the note
     made : (os : List Operation) → filter is_operation c.begun ≡ map operation_line os → (x : Address) → hop_at (carried_out (haves (events begin ns)) us) x ≡ hop_at (after_all (installed_by c.before) os) x
@@ -100,7 +97,7 @@ module _ (bytes : List ℕ) (refusals : List Bool) where
         ∙ ap (λ l. hop_at (carried_out H l) x) (filter-append is_operation (update_lines start first_events) c.begun)
         ∙ ap (λ l. hop_at (carried_out H (l ++ filter is_operation c.begun)) x) (lines_operations start first_events)
         ∙ ap (λ l. hop_at (carried_out H (map operation_line G ++ l)) x) e
-        ∙ ap (λ l. hop_at (carried_out H l) x) (map_both operation_line G os)
+        ∙ ap (λ l. hop_at (carried_out H l) x) (sym (map-append operation_line G os))
         ∙ carried_hops H (G ++ os) x
         ∙ ap (λ M. hop_at M x) (after-append H G os)
 

@@ -1,12 +1,12 @@
 -- The lines of an installer are its operations, and what they make is what the operations make.
-use Rattle.std.proofs.Common.{◌≡◌, ◌⊎◌, ℕ, suc, inl, inr, ⊎_elim, Bool, true, false, not, cond, nat_lt, List, [], ◌∷◌, ◌++◌, map, filter, take, length, Option, Some, None, refl, sym, ap, ◌∙◌, subst, append-nil, arith}
-use Rattle.std.specs.Option.{option_map}
+use Rattle.std.proofs.Common.{◌≡◌, ◌⊎◌, ℕ, suc, inl, inr, ⊎_elim, Bool, true, false, not, cond, nat_lt, List, [], ◌∷◌, ◌++◌, map, filter, take, length, Option, Some, None, refl, sym, ap, ◌∙◌, subst, append-nil, option_map, arith}
+use Rattle.std.proofs.lemmas.List.{map-append}
 use Rattle.std.proofs.lemmas.List.Elements.{filter-append}
 use Rattle.ipnet_addr.specs.Addresses.{Address}
 use Rattle.ipnet_blocks.specs.Blocks.{Block, host, is_before, is_inside, same_block}
 use Rattle.ipnet.specs.IpNets.{block}
 use Rattle.route_choices.specs.Choices.{default_preference}
-use Rattle.route_choices.proofs.Kept.{filter_map_swap, map_append}
+use Rattle.route_choices.proofs.Kept.{filter_map_swap}
 use Rattle.route_lines.specs.declared.fib_update.FibUpdate.{FibUpdate}
 use Rattle.route_lines.specs.declared.fib_update.FibUpdate.TheVariants as U
 use Rattle.route_laws.specs.Operations.{Operation, Install, Remove, after_all, between}
@@ -48,7 +48,7 @@ lines_operations s (e ∷ es) =
     filter-append is_operation (event_lines s e) (update_lines (after_event s e) es)
     ∙ ap (λ us. us ++ filter is_operation (update_lines (after_event s e) es)) (event_operations s e)
     ∙ ap (λ us. map operation_line (gives s e) ++ us) (lines_operations (after_event s e) es)
-    ∙ sym (map_append operation_line (gives s e) (given (after_event s e) es))
+    ∙ sym (map-append operation_line (gives s e) (given (after_event s e) es))
 
 pub output_is_given : OutputIsGiven
 output_is_given ns = lines_operations start (events begin ns)
@@ -105,7 +105,7 @@ unfolding plain
 plain_with M r =
     ap (λ l. l ++ plain r ∷ filter (λ (s : Route). is_before r.block s.block) (map plain M)) (filter_map_swap plain (λ (s : Route). is_before s.block r.block) M)
     ∙ ap (λ l. map plain (filter (λ (s : Route). is_before s.block r.block) M) ++ plain r ∷ l) (filter_map_swap plain (λ (s : Route). is_before r.block s.block) M)
-    ∙ sym (map_append plain (filter (λ (s : Route). is_before s.block r.block) M) (r ∷ filter (λ (s : Route). is_before r.block s.block) M))
+    ∙ sym (map-append plain (filter (λ (s : Route). is_before s.block r.block) M) (r ∷ filter (λ (s : Route). is_before r.block s.block) M))
 
 plain_without : (M : List Route) (b : Block) → without_block (map plain M) b ≡ map plain (without_block M b)
 unfolding plain

@@ -1,6 +1,5 @@
 -- What an installer has done at the end of its input.
-use Rattle.std.proofs.Common.{◌≡◌, ℕ, zero, suc, ◌+◌, inl, inr, ⊎_elim, Bool, true, false, cond, List, [], ◌∷◌, ◌++◌, map, IfSome, Option, None, Some, Result, Ok, Err, refl, sym, ap, ◌∙◌, subst, append-nil, arith}
-use Rattle.std.specs.Prelude.{MatchOption, OnOk}
+use Rattle.std.proofs.Common.{◌≡◌, ℕ, zero, suc, ◌+◌, inl, inr, ⊎_elim, Bool, true, false, cond, List, [], ◌∷◌, ◌++◌, map, IfSome, Option, None, Some, Result, Ok, Err, refl, sym, ap, ◌∙◌, subst, append-nil, MatchOption, OnOk, arith}
 use Rattle.std.specs.Io.KnownBytes.{Appends, Consumes}
 use Rattle.std.proofs.KnownBytes.{Appends-trans, Consumes-whole}
 use Rattle.std.proofs.lemmas.Grind.{flat_map-append}
@@ -131,7 +130,7 @@ module _ {W : Type 0} (contents : W → Option (List ℕ)) where
   Closed-plus m n a b c s t p q = record {
     appended = Appends-trans _ _ _ s t p.appended q.appended;
     faults = q.faults ∙ p.faults;
-    flushed = (q.flushed.0 ∙ ap (more_by n) p.flushed.0 ∙ sym (more_plus m n a.flushes), q.flushed.1 ∙ ap (waits_after n) p.flushed.1 ∙ sym (waits_plus m n a.waiting));
+    flushed = (q.flushed.0 ∙ ap (more_by n) p.flushed.0 ∙ sym (more_plus m n a.flushes), q.flushed.1 ∙ ap (waits_after n) p.flushed.1 ∙ sym (waits_plus m n a.waiting), q.flushed.2 ∙ ap (waits_after n) p.flushed.2 ∙ sym (waits_plus m n a.failing));
   }
 
   -- these pieces were taken as these notes
@@ -342,7 +341,7 @@ module _ {R W : Type 0} (remaining : R → Option (List ℕ)) (contents : W → 
 
     -- that did
     pub install_ended : (left : Rest) → Runs (TakesNoteLine contents) remaining a from old (Ok left) b to new → InstallEnds remaining contents from to old new (Ok tt)
-    install_ended left x = let all = all_are x.bytes x.read x.ends.0 in (all.0, x.ends.2, x.ends.3, all.1)
+    install_ended left x = let all = all_are x.bytes x.read x.ends.0 in (all.0, x.ends.2, x.ends.3, x.ends.4, all.1)
 
 -- no memory was found for the start
 pub install_none : {R W : Type 0} (remaining : R → Option (List ℕ)) (contents : W → Option (List ℕ)) (from : Counted R) (old : Counted W) (e : RunError) → e ≡ Why.Memory → InstallEnds remaining contents from from old old (Err e)

@@ -19,14 +19,14 @@ use Rattle.route_laws.specs.Runs.{Event, Have, Told, Sync, Installer, MayAllCome
 use Rattle.route_laws.specs.Tables.{Route, IsTable, hop_at, route_of}
 use Rattle.route_laws.proofs.Between.{after-append}
 use Rattle.route_laws.proofs.Families.{least_too}
-use Rattle.route_laws.proofs.Runs.{Holds, holds, gives_hitless, given_reaches, keeps_hops, sync_is_least, sync_stays, told_is_fewest}
+use Rattle.route_laws.proofs.Runs.{Holds, holds, gives_hitless, given_reaches, keeps_hops, sync_is_least, sync_stays, told_is_fewest, no_haves}
 use Rattle.route_laws.proofs.Turning.{hitless_from}
 use Rattle.route_installer.specs.Installing.{Installing, Noted, after_note, after_notes, begin, committing, event_of, events, route_to}
 use Rattle.route_installer.specs.Laws.{AreFirst, HasSync, InstalledAgrees, InstalledAtAllTimes, InstalledIsHitless, InstalledTurnsOnce, OperationsReach, RepliesAreFewest, SyncsAreLeast, SyncsStay, TurnsOnce, installed_by, operations_at, replies_of, table_by}
 use Rattle.route_feed.specs.Streams.{Change, closes, committed, ends_well, painted_hop, is_done}
 use Rattle.route_feed.proofs.Beginnings.{followed}
 use Rattle.route_installer.proofs.Moments.{hitless_is_turns_once}
-use Rattle.route_installer.proofs.NotesInTurn.{events-append, given-append, haves-append, is_kept, kept_later, may_split, no_haves, replies_of-append, tables_after}
+use Rattle.route_installer.proofs.NotesInTurn.{events-append, given-append, haves-append, is_kept, kept_later, may_split, replies_of-append, tables_after}
 use Rattle.route_installer.proofs.ToldNotes.{committed_from, told_notes}
 
 -- ---- the hops
@@ -141,7 +141,7 @@ next_reached : (ns : List Noted) (n : Noted) → MayAllCome start (events begin 
 next_reached ns n may kept =
     let before = es ns [] n in
     let these = now ns [] n in
-    let as_before : haves (before ++ these) ≡ haves before = haves-append before these [] ∙ no_haves these (after_events start before) (haves before) kept (may_split start before these (may_now ns [] n may)).1 in
+    let as_before : haves (before ++ these) ≡ haves before = haves-append before these [] ∙ no_haves (haves before) these (after_events start before) kept (may_split start before these (may_now ns [] n may)).1 in
     ap (λ T. after_all (installed_by ns) (given T these)) (tables_after begin ns)
     ∙ sym (after-append (haves before) (given start before) (given (after_events start before) these))
     ∙ ap (after_all (haves before)) (sym (given-append start before these))

@@ -11,5 +11,3 @@ pub mod SpelledLines
 pub mod LogNotes
 pub mod CutLines
 pub mod CutOutput
-pub mod Rows
-pub mod InstallRows

@@ -1,7 +1,6 @@
 -- Operations are hitless exactly if each address turns at one moment.
-use Rattle.std.proofs.Common.{◌≡◌, ◌⊎◌, inl, inr, ⊎_elim, ℕ, zero, suc, ◌≤◌, List, length, take, Option, sym, ap, subst, arith}
+use Rattle.std.proofs.Common.{◌≡◌, ◌⊎◌, inl, inr, ⊎_elim, ℕ, zero, suc, ◌≤◌, List, length, take, Option, sym, ap, subst, take_all, arith}
 use Rattle.std.proofs.lemmas.Bool.{cases_lt}
-use Rattle.std.proofs.lemmas.List.{take_all}
 use Rattle.ipnet_addr.specs.Addresses.{Address}
 use Rattle.route_laws.specs.Operations.{IsHitless, Operation, after_all}
 use Rattle.route_laws.specs.Tables.{Route, hop_at}

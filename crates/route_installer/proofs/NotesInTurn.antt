@@ -61,13 +61,6 @@ kept_stays (Sync N ∷ es) s k = kept_stays es (after_event s (Sync N)) refl
 pub kept_later : (s : Installer) (es fs : List Event) → Installer.kept (after_events s es) ≡ true → Installer.kept (after_events s (es ++ fs)) ≡ true
 kept_later s es fs k = ap Installer.kept (after_events-append s es fs) ∙ kept_stays fs (after_events s es) k
 
--- once the table is kept no route is told as installed
-pub no_haves : (es : List Event) (s : Installer) (M : List Route) → s.kept ≡ true → MayAllCome s es → with_haves M es ≡ M
-no_haves [] s M k m = refl
-no_haves (Have r ∷ es) s M k m = let both = sym m.0.0 ∙ k in absurd (cc)
-no_haves (Told rs N ∷ es) s M k m = no_haves es (after_event s (Told rs N)) M k m.1
-no_haves (Sync N ∷ es) s M k m = no_haves es (after_event s (Sync N)) M refl m.1
-
 sync_keeps : (ns : List Noted) (s : Installing) (n : Noted) → In n ns → n.note ≡ N.Sync → Installer.kept (after_events s.tables (events s ns)) ≡ true
 sync_keeps [] s n i e = absurd i
 sync_keeps (m ∷ ns) s n (inl same) e =

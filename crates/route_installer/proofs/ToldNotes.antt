@@ -1,7 +1,6 @@
 -- The hops that notes tell are those that their reply lines commit.
-use Rattle.std.proofs.Common.{◌≡◌, ℕ, Bool, true, false, cond, List, [], ◌∷◌, ◌++◌, map, Option, None, refl, sym, ap, ◌∙◌, append_assoc}
+use Rattle.std.proofs.Common.{◌≡◌, ℕ, Bool, true, false, cond, List, [], ◌∷◌, ◌++◌, map, Option, None, refl, sym, ap, ◌∙◌, append_assoc, option_to_list}
 use Rattle.std.specs.List.{cons_option}
-use Rattle.std.specs.Option.{option_to_list}
 use Rattle.route_laws.proofs.Fewest.{number_from_hop}
 use Rattle.ipnet_addr.specs.Addresses.{Address}
 use Rattle.ipnet_blocks.specs.Blocks.{has_address}
@@ -20,10 +19,6 @@ use Rattle.route_installer.specs.Laws.{replies_of, reply_of_note}
 -- the changes that lines commit, and those that wait before them, if the first closing line is `ok`
 abbrev pub committed_from : List Change → List Reply → List Change
 committed_from pending ls = cond (ends_well ls) pending [] ++ committed ls
-
--- a line that closes no reply
-abbrev IsOpen : Reply → Type 0
-IsOpen l = (closes l ≡ None)
 
 open_more : (d : Bool) (pending more cs : List Change) → cond d pending [] ++ cond d (more ++ cs) cs ≡ cond d (pending ++ more) [] ++ cs
 open_more true pending more cs = sym (append_assoc pending more cs)

@@ -1,5 +1,5 @@
 -- The effect of `install` on its devices, by its result.
-use Rattle.std.specs.Prelude.{◌≡◌, ◌<◌, ℕ, ◌⊎◌, List, [], ◌∷◌, ◌++◌, length, Option, Some, Result, Ok, Err}
+use Rattle.std.specs.Prelude.{◌≡◌, ◌<◌, ℕ, ◌⊎◌, List, [], ◌∷◌, ◌++◌, length, Option, Some, Result, Ok, Err, false}
 use Rattle.std.specs.Io.KnownBytes.{Appends, Consumes, IsAtEnd}
 use Rattle.route_lines.specs.Bytes.{lines}
 use Rattle.route_lines.specs.Spelled.{note_of}
@@ -77,7 +77,8 @@ module _ {R W : Type 0} (remaining : R → Option (List ℕ)) (contents : W → 
   -- and the output of those before it was written and flushed. `Memory`: the same of a note that may need memory, or nothing was done.
   -- `Write`: the writer failed at a note that has output, in its last call. A beginning of this output was written too, but not flushed.
   abbrev pub InstallEnds : Counted R → Counted R → Counted W → Counted W → Result Unit RunError → Type 0
-  InstallEnds from to old new (Ok done) = Installs from to old new × IsAtEnd (remaining to.device) × (to.faults ≡ from.faults) × (new.faults ≡ old.faults)
+  InstallEnds from to old new (Ok done) =
+      Installs from to old new × IsAtEnd (remaining to.device) × (to.faults ≡ from.faults) × (to.failing ≡ false) × (new.faults ≡ old.faults)
   InstallEnds from to old new (Err Why.Read) = Installs from to old new × ReadFault from to × (new.faults ≡ old.faults)
   InstallEnds from to old new (Err Why.Line) = MeetsUnfit from to old new × (to.faults ≡ from.faults) × (new.faults ≡ old.faults)
   InstallEnds from to old new (Err Why.Write) = MeetsFault from to old new × (to.faults ≡ from.faults) × FailedLast old new

@@ -1,5 +1,5 @@
 //! The run of an installer.
-ghost use Rattle.std.specs.Prelude.{OnOk, IfSome};
+ghost use Rattle.std.specs.Prelude.{◌≤◌, ◌+◌, ◌^◌, OnOk, IfSome};
 ghost use Rattle.route_lines.specs.Bytes.{lines};
 ghost use Rattle.route_program.specs.Counted.{CanCount, CanRun};
 ghost use Rattle.route_installer.specs.InnerInstalling.{TakesNoteLine};
@@ -69,6 +69,7 @@ pub fn install<R: Read, W: Write>(
 ) -> Result<(), RunError>
     requires { CanRun reader.old writer.old }
     ensures ends { InstallEnds R.remaining W.contents reader.old reader.new writer.old writer.new result }
+    ensures reads { reader.new.reads ≤ reader.old.reads + 2 ^ 62 }
     ensures known { OnOk result (IfSome (R.remaining reader.old.device) (λ bytes.
         AppendsInstalled (lines bytes) (W.contents writer.old.device) (W.contents writer.new.device))) }
 {

@@ -1,11 +1,10 @@
 -- The operations between two tables lead from the one to the other.
-use Rattle.std.proofs.Common.{◌≡◌, ◌⊎◌, ◌&&◌, ◌==◌, inl, inr, ⊎_elim, true, not, List, [], ◌∷◌, ◌++◌, refl, sym, ap, subst, arith}
+use Rattle.std.proofs.Common.{◌≡◌, ◌⊎◌, ◌&&◌, ◌==◌, inl, inr, ⊎_elim, true, not, List, [], ◌∷◌, ◌++◌, refl, sym, ap, subst, reverse, arith}
 use Rattle.std.specs.List.{list_any}
 use Rattle.std.proofs.lemmas.Bool.{and_parts, cases_Bool}
 use Rattle.std.proofs.lemmas.Bool.Decides.{nat_tests}
 use Rattle.std.proofs.lemmas.List.{reverse-append, reverse-reverse}
 use Rattle.std.proofs.lemmas.List.Sorted.{Contains-permutation, IsPermutation-reverse}
-use mathlib.Core.List.{reverse}
 use Rattle.ipnet_addr.proofs.Basics.{In-from_list_any, list_any-from_In}
 use Rattle.ipnet_addr.proofs.Members.{In}
 use Rattle.ipnet_addr.proofs.Ascending.{Rising, same_rising, In-from_Contains, Contains-from_In}

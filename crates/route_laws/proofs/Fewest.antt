@@ -64,7 +64,7 @@ module _ (b : Block) (ok : IsBlock b) where
         ∙ ap (λ j. hop_under j N x) (number_from_hop k) ∙ g.same x m;
   }
 
-fits_hop : (k : Option ℕ) → IfSome k (λ j. j < 2 ^ 32) → IsHop (hop_from k)
+pub fits_hop : (k : Option ℕ) → IfSome k (λ j. j < 2 ^ 32) → IsHop (hop_from k)
 fits_hop None f = tt
 fits_hop (Some j) f = f
 

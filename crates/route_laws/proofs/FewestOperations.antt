@@ -1,7 +1,5 @@
 -- How many operations there are between two tables: none are fewer, and changes take few.
-use Rattle.std.proofs.Common.{◌≡◌, ◌≤◌, ◌⊎◌, inl, inr, ⊎_elim, List, [], ◌∷◌, ◌++◌, length, refl, sym, ap, ◌∙◌, subst, suc, ◌+◌, not, ◌&&◌, arith}
-use Rattle.std.proofs.lemmas.List.{length-append}
-use mathlib.Core.List.{reverse}
+use Rattle.std.proofs.Common.{◌≡◌, ◌≤◌, ◌⊎◌, inl, inr, ⊎_elim, List, [], ◌∷◌, ◌++◌, length, refl, sym, ap, ◌∙◌, subst, suc, ◌+◌, not, ◌&&◌, length-append, reverse, arith}
 use Rattle.ipnet_addr.proofs.Members.{In, In-cases, Distinct, no_more}
 use Rattle.ipnet_addr.proofs.Ascending.{Rising, Distinct-from_Rising}
 use Rattle.ipnet_blocks.specs.Blocks.{Block, IsBefore, IsBlock, IsInside, is_inside, same_block}

@@ -20,7 +20,6 @@ pub mod Rebuilds
 pub mod OneRoute
 pub mod Insides
 pub mod Fewest
-pub mod Rows
 pub mod Families
 pub mod Turning
 pub mod Between
@@ -29,4 +28,3 @@ pub mod Inherited
 pub mod FewestOperations
 pub mod Nearest
 pub mod Runs
-pub mod OperationRows

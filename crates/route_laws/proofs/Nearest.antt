@@ -1,6 +1,5 @@
 -- Nearest tables and the fewest operations.
-use Rattle.std.proofs.Common.{◌≡◌, List, [], ◌∷◌, length, ◌≤◌, refl, sym, ap, ◌∙◌, subst, arith, append-nil}
-use mathlib.Core.List.{reverse}
+use Rattle.std.proofs.Common.{◌≡◌, List, [], ◌∷◌, length, ◌≤◌, refl, sym, ap, ◌∙◌, subst, append-nil, reverse, arith}
 use Rattle.std.proofs.lemmas.List.{length-map, length-reverse}
 use Rattle.route_laws.specs.LeastTables.{HasHops, IsLeast}
 use Rattle.route_laws.specs.Nearest.{IsFewestTo, IsNearest, FewestIsNearest, LeastIsNearest, NearestIsBounded, NearestIsFewest, NearestIsHitless, UpdatesAreBounded, UpdatesAreFewest, UpdatesAreHitless}

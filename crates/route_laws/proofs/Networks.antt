@@ -1,5 +1,6 @@
 -- Tables with several choices a network: what a change leaves, and the table of the best routes.
 use Rattle.std.proofs.Common.{◌≡◌, ◌≢◌, ◌<◌, ◌^◌, ◌⊎◌, inl, inr, ⊎_elim, Bool, false, not, cond, List, [], ◌∷◌, ◌++◌, Some, MatchOption, filter, map, refl, sym, ap, ◌∙◌, subst}
+use Rattle.std.proofs.lemmas.List.{map-append}
 use Rattle.std.proofs.lemmas.Bool.{cases_Bool, cond-false, cond-true}
 use Rattle.ipnet_addr.proofs.Members.{In}
 use Rattle.ipnet_addr.proofs.Ascending.{In-from_All, All-from_In, Rising, Rising-from_pairs, pairs_from_Rising, same_rising}
@@ -9,7 +10,7 @@ use Rattle.ipnet_blocks.proofs.BlockTests.{same_from_test, test_from_same}
 use Rattle.route_choices.specs.Hops.{IsHop}
 use Rattle.route_choices.specs.declared.hop.Hop.{Hop}
 use Rattle.route_choices.specs.Choices.{Choice, beats, AreChoices, best, best_hop, is_one_too_many, choices_with, choices_without}
-use Rattle.route_choices.proofs.Kept.{filter_map_swap, map_append, In-map, map_In, In-from_filter, Rising-kept}
+use Rattle.route_choices.proofs.Kept.{filter_map_swap, In-map, map_In, In-from_filter, Rising-kept}
 use Rattle.route_choices.proofs.Preferences.{test_from_hop, test_from_apart}
 use Rattle.route_choices.proofs.ChoiceLists.{left_back, without_are, without_none, with_are, none_are}
 use Rattle.route_laws.specs.Tables.{Route, IsTable, with_route, without_block}
@@ -24,7 +25,7 @@ Earlier s t = IsBefore s.block t.block
 
 pub routes_with : (T : List Stored) (s : Stored) → routes_of (with_stored T s) ≡ with_route (routes_of T) (best_route s)
 routes_with T s =
-    map_append best_route (filter (λ t. is_before t.block s.block) T) (s ∷ filter (λ t. is_before s.block t.block) T)
+    map-append best_route (filter (λ t. is_before t.block s.block) T) (s ∷ filter (λ t. is_before s.block t.block) T)
     ∙ ap (λ rs. rs ++ best_route s ∷ map best_route (filter (λ t. is_before s.block t.block) T)) (sym (filter_map_swap best_route (λ r. is_before r.block s.block) T))
     ∙ ap (λ rs. filter (λ r. is_before r.block s.block) (map best_route T) ++ best_route s ∷ rs) (sym (filter_map_swap best_route (λ r. is_before s.block r.block) T))
 

@@ -1,6 +1,5 @@
 -- The blocks of one number in a flat list.
-use Rattle.std.proofs.Common.{◌≡◌, ℕ, ◌==◌, Bool, List, filter, Option, Some, refl, sym, subst}
-use Rattle.std.proofs.lemmas.Bool.{eq-eqb, eqb-true}
+use Rattle.std.proofs.Common.{◌≡◌, ℕ, ◌==◌, Bool, List, filter, Option, Some, refl, sym, subst, eq-eqb, eqb-true}
 use Rattle.ipnet_addr.specs.Addresses.{Address}
 use Rattle.ipnet_blocks.specs.Blocks.{Block, IsBefore}
 use Rattle.ipnet_blocks.specs.Maximal.{IsMaximalBlock, IsMaximal}

@@ -167,7 +167,7 @@ told_is_fewest es rs N m k =
 -- ---- all events together
 
 -- once the table is kept, nothing else is installed already
-no_haves : (M : List Route) (es : List Event) (s : Installer) → s.kept ≡ true → MayAllCome s es → with_haves M es ≡ M
+pub no_haves : (M : List Route) (es : List Event) (s : Installer) → s.kept ≡ true → MayAllCome s es → with_haves M es ≡ M
 no_haves M [] s k m = refl
 no_haves M (Have r ∷ es) s k m = let e = sym k ∙ m.0.0 in absurd (cc)
 no_haves M (Told rs N ∷ es) s k m = no_haves M es (after_event s (Told rs N)) k m.1

@@ -1,5 +1,5 @@
 -- What a table holds after a change, and the longest matches then.
-use Rattle.std.proofs.Common.{◌≡◌, ◌⊎◌, ⊎_elim, not, List, sym, subst, inl, inr, true, cond, ◌∷◌, filter, Option, Some, None, refl, ap, ◌∙◌, arith, Contains}
+use Rattle.std.proofs.Common.{◌≡◌, ◌⊎◌, ⊎_elim, not, List, sym, subst, inl, inr, true, cond, ◌∷◌, filter, Option, Some, None, refl, ap, ◌∙◌, Contains, ◌≢◌, ◌↔◌, arith}
 use Rattle.ipnet_blocks.specs.Blocks.{Block, IsBlock, same_block, IsInside, is_before, is_inside}
 use Rattle.ipnet_addr.proofs.Members.{In, In-right}
 use Rattle.route_choices.specs.Hops.{IsHop}
@@ -7,7 +7,6 @@ use Rattle.route_laws.specs.Tables.{Route, IsTable, with_route, without_block, c
 use Rattle.route_laws.proofs.Insides.{Sound, rising, sound, table_kept, table_of, same_parts}
 pub use Rattle.route_laws.proofs.Insides.{Sooner}
 use Rattle.route_laws.proofs.Ordered.{put_back, put_itself, put_other, put_rises, gone_back, gone_other}
-use Rattle.std.specs.Prelude.{◌≢◌, ◌↔◌}
 use Rattle.std.proofs.lemmas.Bool.{cond_both}
 use Rattle.ipnet_addr.proofs.Ascending.{In-from_Contains, Contains-from_In}
 use Rattle.route_laws.proofs.Matches.{block_in, no_match, match_meets, match_from, inside_from_test, best_of, covers_in, in_covers, longer_cases, none_from}

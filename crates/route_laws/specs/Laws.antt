@@ -1,6 +1,5 @@
 -- The theorems about tables, as statements.
-use Rattle.std.specs.Prelude.{◌≡◌, ◌≢◌, ◌⊎◌, false, [], ◌∷◌, ◌++◌, ℕ, ◌^◌, ◌≤◌, ◌<◌, if◌then◌else◌, ◌↔◌, ◌==◌, ◌+◌, List, Option, Some, None, MatchOption, Contains, length, map, sum_by, filter}
-use Rattle.std.specs.List.{flat_map}
+use Rattle.std.specs.Prelude.{◌≡◌, ◌≢◌, ◌⊎◌, false, [], ◌∷◌, ◌++◌, ℕ, ◌^◌, ◌≤◌, ◌<◌, if◌then◌else◌, ◌↔◌, ◌==◌, ◌+◌, List, Option, Some, None, MatchOption, Contains, length, map, sum_by, filter, flat_map}
 use Rattle.ipnet_addr.specs.Addresses.{Family, Address, IsAddress, same_family}
 use Rattle.ipnet_blocks.specs.Blocks.{Block, IsBlock, HasAddress, IsAscending, has_address, is_inside, host}
 use Rattle.ipnet_blocks.specs.Maximal.{IsMaximal, IsUnion, IsShortest, maximal_of}

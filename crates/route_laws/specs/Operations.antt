@@ -1,7 +1,6 @@
 -- Operations on an installed table, the tables on the way, and the operations between two tables.
-use Rattle.std.specs.Prelude.{◌≡◌, ◌==◌, ℕ, ◌≤◌, ◌⊎◌, Bool, not, ◌&&◌, List, [], ◌∷◌, ◌++◌, filter, map, length, take}
+use Rattle.std.specs.Prelude.{◌≡◌, ◌==◌, ℕ, ◌≤◌, ◌⊎◌, Bool, not, ◌&&◌, List, [], ◌∷◌, ◌++◌, filter, map, length, take, reverse}
 use Rattle.std.specs.List.{list_any}
-use mathlib.Core.List.{reverse}
 use Rattle.ipnet_addr.specs.Addresses.{Address, IsAddress}
 use Rattle.ipnet_blocks.specs.Blocks.{Block, same_block}
 use Rattle.route_choices.specs.Choices.{same_hop}

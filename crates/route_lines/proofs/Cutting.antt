@@ -1,10 +1,8 @@
 -- A cutter's answers are the lines of its bytes.
-use Rattle.std.proofs.Common.{eqb-true, ◌≡◌, ◌≢◌, ℕ, All, None, ◌<◌, ◌≤◌, Bool, true, false, cond, ltb, eqb, ◌==◌, List, [], ◌∷◌, ◌++◌, length, take, map, refl, sym, ap, ◌∙◌, ⊎_elim, append_assoc, append-nil, arith, length-append, le-ltb, lt-ltb, eq-eqb, ne_eqb, length-take}
+use Rattle.std.proofs.Common.{eqb-true, ◌≡◌, ◌≢◌, ℕ, All, None, ◌<◌, ◌≤◌, Bool, true, false, cond, ltb, eqb, ◌==◌, List, [], ◌∷◌, ◌++◌, length, take, map, refl, sym, ap, ◌∙◌, ⊎_elim, append_assoc, append-nil, length-append, le-ltb, lt-ltb, eq-eqb, ne_eqb, length-take, option_to_list, flat_map, arith}
 use Rattle.std.proofs.lemmas.Bool.{cases_lt}
 use Rattle.std.proofs.lemmas.List.Elements.{All-head, All-tail}
 use Rattle.std.proofs.lemmas.List.{take-append-le, length-take-le, take_all}
-use Rattle.std.specs.Option.{option_to_list}
-use Rattle.std.specs.List.{flat_map}
 use Rattle.route_lines.specs.declared.cutter.Line.TheVariants.{Text, TooLong}
 use Rattle.route_lines.specs.Kept.{Kept}
 use Rattle.route_lines.specs.Bytes.{onto_first, lines, if_no_piece, rest}

@@ -11,4 +11,3 @@ pub mod Printed
 pub mod PrintedCommands
 pub mod PrintedReplies
 pub mod Spells
-pub mod Earlier

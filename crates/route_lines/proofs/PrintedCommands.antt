@@ -1,6 +1,5 @@
 -- What is printed of a command reads as that command.
-use Rattle.std.proofs.Common.{◌≡◌, ℕ, ◌≤◌, ◌==◌, cond, Bool, true, false, Option, Some, None, List, [], ◌++◌, codes, decimal, refl, arith, sym, subst, append_assoc, append-nil}
-use Rattle.std.specs.Prelude.{unwrap_or}
+use Rattle.std.proofs.Common.{◌≡◌, ℕ, ◌≤◌, ◌==◌, cond, Bool, true, false, Option, Some, None, List, [], ◌++◌, codes, decimal, refl, sym, subst, append_assoc, append-nil, unwrap_or, arith}
 use Rattle.std.proofs.lemmas.Bool.Decides.{nat_tests}
 use Rattle.ipnet.specs.IpNetText.{net_text, Reads}
 use Rattle.ipnet.specs.declared.ip_net.IpNet.{IpNet}

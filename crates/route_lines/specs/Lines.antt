@@ -1,6 +1,5 @@
 -- The state of a line cutter, and the lines that it returns.
-use Rattle.std.specs.Prelude.{ℕ, ◌==◌, nat_lt, length, take, map, true, List, [], ◌∷◌, ◌++◌, if◌then◌else◌, Option, None, Some}
-use Rattle.std.specs.Option.{option_to_list}
+use Rattle.std.specs.Prelude.{ℕ, ◌==◌, nat_lt, length, take, map, true, List, [], ◌∷◌, ◌++◌, if◌then◌else◌, Option, None, Some, option_to_list}
 use Rattle.std.specs.Borrow.{Bor}
 use Rattle.route_lines.specs.declared.cutter.Line.{Line}
 use Rattle.route_lines.specs.declared.cutter.Line.TheVariants.{Text, TooLong}

@@ -1,6 +1,5 @@
 -- The line that a text spells, as a function of the text.
-use Rattle.std.specs.Prelude.{ℕ, ◌&&◌, ◌==◌, nat_le, if◌then◌else◌, List, [], ◌∷◌, take, drop, length, codes, decimal, Option, Some, None, option_map, option_and_then, unwrap_or}
-use Rattle.std.specs.Str.{bytes_eq}
+use Rattle.std.specs.Prelude.{ℕ, ◌&&◌, ◌==◌, nat_le, if◌then◌else◌, List, [], ◌∷◌, take, drop, length, codes, decimal, Option, Some, None, option_map, option_and_then, unwrap_or, bytes_eq}
 use Rattle.std.specs.Str.Parse.{digits_value}
 use Rattle.ipnet.specs.IpNets.{block, network_at}
 use Rattle.ipnet.specs.IpNetText.{ip_net_of}

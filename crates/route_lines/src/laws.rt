@@ -1,6 +1,5 @@
 //! Theorems about lines: public functions without a body, whose contracts are the theorems.
-ghost use Rattle.std.specs.Prelude.{◌≡◌, ◌↔◌, ℕ, List, [], ◌∷◌, ◌++◌, Some};
-ghost use Rattle.std.specs.List.{flat_map};
+ghost use Rattle.std.specs.Prelude.{◌≡◌, ◌↔◌, ℕ, List, [], ◌∷◌, ◌++◌, Some, flat_map};
 ghost use Rattle.route_lines.specs.Bytes.{lines, rest};
 ghost use Rattle.route_lines.specs.CommandText.{IsPrintableCommand, command_text};
 ghost use Rattle.route_lines.specs.Earlier.{IsEarlierReply};

@@ -1,5 +1,5 @@
 -- Writes one after another.
-use Rattle.std.proofs.Common.{◌≡◌, ◌==◌, ne_eqb, ℕ, zero, suc, ◌<◌, ◌≤◌, ◌+◌, ◌-◌, ◌^◌, Bool, true, false, ◌&&◌, ◌||◌, codes, List, [], ◌∷◌, ◌++◌, length, Option, Result, Ok, Err, refl, sym, ap, ◌∙◌, subst, append_assoc, append-nil, arith}
+use Rattle.std.proofs.Common.{◌≡◌, ◌==◌, ne_eqb, ℕ, zero, suc, ◌<◌, ◌≤◌, ◌+◌, ◌-◌, ◌^◌, Bool, true, false, not, ◌&&◌, ◌||◌, codes, List, [], ◌∷◌, ◌++◌, length, Option, Result, Ok, Err, refl, sym, ap, ◌∙◌, subst, append_assoc, append-nil, arith}
 use Rattle.std.specs.Io.KnownBytes.{Appends}
 use Rattle.std.proofs.KnownBytes.{Appends-nil, Appends-trans}
 use Rattle.std.proofs.lemmas.Bool.{or_right, and_right}
@@ -12,6 +12,10 @@ use Rattle.route_program.specs.Devices.{Written, Delivers, has_bytes, Closed, To
 one_has : (s t : List ℕ) (waits : Bool) → (has_bytes t || (has_bytes s || waits)) ≡ (has_bytes (s ++ t) || waits)
 one_has [] t waits = refl
 one_has (b ∷ s) t waits = or_right (has_bytes t) true refl
+
+none_has : (s t : List ℕ) (fails : Bool) → (not (has_bytes t) && (not (has_bytes s) && fails)) ≡ (not (has_bytes (s ++ t)) && fails)
+none_has [] t fails = refl
+none_has (b ∷ s) t fails = and_right (not (has_bytes t)) false refl
 
 pub has_some : (text : List ℕ) → 0 < length text → has_bytes text ≡ true
 has_some [] h = absurd (omega arith)
@@ -52,11 +56,12 @@ module _ {W : Type 0} where
   Flushed-append xs ys a b c p q = (
     q.0 ∙ ap (more_by (length ys)) p.0 ∙ sym (more_append xs ys a.flushes),
     q.1 ∙ ap (waits_after (length ys)) p.1 ∙ sym (waits_append xs ys a.waiting),
+    q.2 ∙ ap (waits_after (length ys)) p.2 ∙ sym (waits_append xs ys a.failing),
   )
 
 module _ {W : Type 0} (contents : W → Option (List ℕ)) where
   pub Written-nil : (w : Counted W) → Written contents w w []
-  Written-nil w = record { appended = Appends-nil (contents w.device); faults = refl; flushes = refl; waits = refl }
+  Written-nil w = record { appended = Appends-nil (contents w.device); faults = refl; flushes = refl; waits = refl; fails = refl }
 
   pub Written-trans : (a b c : Counted W) (s t : List ℕ) → Written contents a b s → Written contents b c t → Written contents a c (s ++ t)
   Written-trans a b c s t p q = record {
@@ -64,6 +69,7 @@ module _ {W : Type 0} (contents : W → Option (List ℕ)) where
     faults = q.faults ∙ p.faults;
     flushes = q.flushes ∙ p.flushes;
     waits = q.waits ∙ ap (λ w. has_bytes t || w) p.waits ∙ one_has s t a.waiting;
+    fails = q.fails ∙ ap (λ w. not (has_bytes t) && w) p.fails ∙ none_has s t a.failing;
   }
 
   pub Torn-after : (a b c : Counted W) (s t : List ℕ) → Written contents a b s → Torn contents b c t → Torn contents a c (s ++ t)
@@ -89,7 +95,7 @@ module _ {W : Type 0} (contents : W → Option (List ℕ)) where
 
   -- the end of a reply after its beginning
   pub Closes-written : {T : Type 0} (a b c : Counted W) (r : Result T RunError) (s t : List ℕ) → Written contents a b s → Closes contents 1 b c r t → Closes contents 1 a c r (s ++ t)
-  Closes-written a b c (Ok x) s t p q = record { appended = Appends-trans _ _ _ s t p.appended q.appended; faults = q.faults ∙ p.faults; flushed = (q.flushed.0 ∙ ap one_more p.flushes, q.flushed.1) }
+  Closes-written a b c (Ok x) s t p q = record { appended = Appends-trans _ _ _ s t p.appended q.appended; faults = q.faults ∙ p.faults; flushed = (q.flushed.0 ∙ ap one_more p.flushes, q.flushed.1, q.flushed.2) }
   Closes-written a b c (Err e) s t p q = (q.0, Torn-after a b c s t p q.1)
 
   -- the end of a text after its beginning, and then all is flushed
@@ -97,13 +103,13 @@ module _ {W : Type 0} (contents : W → Option (List ℕ)) where
   Delivers-after a b c (Ok x) s p q = record {
     appended = subst (Appends (contents a.device) (contents c.device)) (append-nil s) (Appends-trans _ _ _ s [] p.appended q.appended);
     faults = q.faults ∙ p.faults;
-    flushed = (q.flushed.0 ∙ ap (λ w. more_if w b.flushes) p.waits ∙ ap (more_if (has_bytes s || a.waiting)) p.flushes, q.flushed.1);
+    flushed = (q.flushed.0 ∙ ap (λ w. more_if w b.flushes) p.waits ∙ ap (more_if (has_bytes s || a.waiting)) p.flushes, q.flushed.1, q.flushed.2);
   }
   Delivers-after a b c (Err e) s p q = (q.0, subst (Torn contents a c) (append-nil s) (Torn-after a b c s [] p q.1))
 
   -- a flush of bytes that waited closes a reply
   pub Closes-delivered : {T : Type 0} (a b : Counted W) (r : Result T RunError) → a.waiting ≡ true → Delivers contents a b r [] → Closes contents 1 a b r []
-  Closes-delivered a b (Ok x) waits q = record { appended = q.appended; faults = q.faults; flushed = (q.flushed.0 ∙ ap (λ w. more_if w a.flushes) waits, q.flushed.1) }
+  Closes-delivered a b (Ok x) waits q = record { appended = q.appended; faults = q.faults; flushed = (q.flushed.0 ∙ ap (λ w. more_if w a.flushes) waits, q.flushed.1, q.flushed.2) }
   Closes-delivered a b (Err e) waits q = q
 
   -- and then nothing more
@@ -111,7 +117,7 @@ module _ {W : Type 0} (contents : W → Option (List ℕ)) where
   Closes-end a b c r s p q = subst (Closes contents 1 a c r) (append-nil s) (Closes-written a b c r s [] p q)
 
   pub Closed-nil : (w : Counted W) → Closed contents 0 w w []
-  Closed-nil w = record { appended = Appends-nil (contents w.device); faults = refl; flushed = (refl, refl) }
+  Closed-nil w = record { appended = Appends-nil (contents w.device); faults = refl; flushed = (refl, refl, refl) }
 
   -- replies after replies
   pub Closed-after : {A : Type 0} (xs ys : List A) (a b c : Counted W) (s t : List ℕ) → Closed contents (length xs) a b s → Closed contents (length ys) b c t → Closed contents (length (xs ++ ys)) a c (s ++ t)

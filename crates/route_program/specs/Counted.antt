@@ -49,10 +49,11 @@ FailedLast from to = (to.faults ≡ from.faults + 1) × (to.failing ≡ true)
 abbrev pub ReadFault : {R : Type 0} → Counted R → Counted R → Type 0
 ReadFault from to = FailedLast from to ⊎ ((from.reads + 2 ^ 62 ≤ to.reads) × (to.faults ≡ from.faults))
 
--- bytes were written and then flushed, `times` times, and nothing was written after that
+-- bytes were written and then flushed, `times` times, nothing was written after that, and the last call was no fault
 abbrev pub Flushed : {W : Type 0} → ℕ → Counted W → Counted W → Type 0
-Flushed times old new = (new.flushes ≡ more_by times old.flushes) × (new.waiting ≡ (times == 0 && old.waiting))
+Flushed times old new = (new.flushes ≡ more_by times old.flushes) × (new.waiting ≡ (times == 0 && old.waiting)) × (new.failing ≡ (times == 0 && old.failing))
 
--- earlier unflushed bytes and this text were flushed, once, and nothing is unflushed; if there were no bytes, no flush counts
+-- earlier unflushed bytes and this text were flushed, once, nothing is unflushed, and the last call was no fault; if there were no bytes,
+-- no flush counts
 abbrev pub FlushedAll : {W : Type 0} → List ℕ → Counted W → Counted W → Type 0
-FlushedAll text old new = (new.flushes ≡ if is_some (slice_get text 0) || old.waiting then one_more old.flushes else old.flushes) × (new.waiting ≡ false)
+FlushedAll text old new = (new.flushes ≡ if is_some (slice_get text 0) || old.waiting then one_more old.flushes else old.flushes) × (new.waiting ≡ false) × (new.failing ≡ false)

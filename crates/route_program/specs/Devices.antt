@@ -1,5 +1,5 @@
 -- The input and the output of devices: bytes that were read, and texts of replies that were written and flushed.
-use Rattle.std.specs.Prelude.{◌≡◌, ℕ, Bool, ◌||◌, List, ◌++◌, Option, is_some, slice_get, Result, Ok, Err, codes}
+use Rattle.std.specs.Prelude.{◌≡◌, ℕ, Bool, not, ◌&&◌, ◌||◌, List, ◌++◌, Option, is_some, slice_get, Result, Ok, Err, codes, false}
 use Rattle.std.specs.Io.KnownBytes.{Appends, Consumes, IsAtEnd}
 use Rattle.route_lines.specs.Texts.{closing_text}
 use Rattle.route_lines.specs.declared.reply.Closing.{Closing}
@@ -16,7 +16,7 @@ pub record HasRead {R : Type 0} (remaining : R → Option (List ℕ)) (P : List 
 
 -- the reader returned all its bytes, P holds of them, and no read failed
 abbrev pub HasReadAll : {R : Type 0} → (R → Option (List ℕ)) → (List ℕ → Type 0) → Counted R → Counted R → Type 0
-HasReadAll remaining P from to = HasRead remaining P from to × IsAtEnd (remaining to.device) × (to.faults ≡ from.faults)
+HasReadAll remaining P from to = HasRead remaining P from to × IsAtEnd (remaining to.device) × (to.faults ≡ from.faults) × (to.failing ≡ false)
 
 -- the test that a text isn't empty
 abbrev pub has_bytes : List ℕ → Bool
@@ -59,6 +59,7 @@ module _ {W : Type 0} (contents : W → Option (List ℕ)) where
     pub faults : new.faults ≡ old.faults
     pub flushes : new.flushes ≡ old.flushes
     pub waits : new.waiting ≡ (has_bytes text || old.waiting)
+    pub fails : new.failing ≡ (not (has_bytes text) && old.failing)
 
   -- the text was written; or a beginning of it was, and then the writer failed
   abbrev pub Writes : {T : Type 0} → Counted W → Counted W → Result T RunError → List ℕ → Type 0

@@ -1,5 +1,5 @@
 //! The receivers of input lines, and the run that reads the input for them.
-ghost use Rattle.std.specs.Prelude.{◌≡◌, ◌≢◌, ◌<◌, [], ◌∷◌, ◌++◌, length, All, OnOk, Result};
+ghost use Rattle.std.specs.Prelude.{◌≡◌, ◌≢◌, ◌<◌, ◌≤◌, ◌+◌, ◌^◌, [], ◌∷◌, ◌++◌, length, All, OnOk, Result};
 ghost use Rattle.route_program.specs.Counted.{CanRead};
 ghost use Rattle.route_program.specs.Run.{Runs, TakesAll};
 ghost use Rattle.route_program.specs.declared.counted.Counted.{Counted};
@@ -132,7 +132,8 @@ pub fn run<R: Read, W: Write, S: Sink<W>>(
     requires room { 0 < length buf.old }
     requires sink { S.can_take sink.old writer.old }
     requires reader { CanRead reader.old }
-    ensures { Runs S.takes R.remaining sink.old reader.old writer.old result sink.new reader.new writer.new }
+    ensures runs { Runs S.takes R.remaining sink.old reader.old writer.old result sink.new reader.new writer.new }
+    ensures reads { reader.new.reads ≤ reader.old.reads + 2 ^ 62 }
 {
     let mut cutter = LineCutter::new();
     for _read in 0..MOST_READS {

@@ -1,9 +1,6 @@
 -- What calls of a side's trie answer, as answers of the side.
-use Rattle.std.proofs.Common.{◌≡◌, ◌≤◌, Bool, List, [], ◌∷◌, length, map, filter, Option, Some, None, unwrap_or, refl, sym, ap, ◌∙◌, arith}
+use Rattle.std.proofs.Common.{◌≡◌, ◌≤◌, Bool, List, [], ◌∷◌, length, map, filter, Option, Some, None, unwrap_or, refl, sym, ap, ◌∙◌, Bor, MatchOption, option_map, arith}
 use Rattle.std.proofs.lemmas.List.{length-map}
-use Rattle.std.specs.Borrow.{Bor}
-use Rattle.std.specs.Prelude.{MatchOption}
-use Rattle.std.specs.Option.{option_map}
 use Rattle.std.specs.FinMap.{get, entries, from_entries, len, len-entries, same_map, get-entries, get-from_entries}
 use Rattle.ipnet_addr.specs.Addresses.{Family, width, same_family}
 use Rattle.ipnet_addr.proofs.Ascending.{In-from_All}

@@ -1,8 +1,7 @@
 -- The networks of the map of one side.
-use Rattle.std.proofs.Common.{◌≡◌, inl, inr, Bool, List, [], ◌∷◌, length, ◌≤◌, map, Some, refl, sym, ap, ◌∙◌, subst}
+use Rattle.std.proofs.Common.{◌≡◌, inl, inr, Bool, List, [], ◌∷◌, length, ◌≤◌, map, Some, refl, sym, ap, ◌∙◌, subst, Less}
 use Rattle.std.specs.FinMap.{empty, entries, entries_sorted, get, get-empty}
 use Rattle.ipnet_addr.specs.Addresses.{Family, width}
-use Rattle.std.specs.declared.cmp.Ordering.TheVariants.{Less}
 use Rattle.ipnet_blocks.specs.BitStrings.{bits_cmp}
 use Rattle.ipnet_blocks.specs.Blocks.{IsBlock, IsBefore, bit_string}
 use Rattle.ipnet_addr.proofs.Members.{In}

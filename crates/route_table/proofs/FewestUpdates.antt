@@ -1,7 +1,6 @@
 -- The edits of both families are the operations between a table and a nearest one.
-use Rattle.std.proofs.Common.{◌≡◌, ℕ, ◌+◌, ◌≤◌, not, Bool, List, [], ◌++◌, filter, length, map, All, Option, None, refl, sym, ap, ap₂, ◌∙◌, subst, arith, length-append}
-use mathlib.Core.List.{reverse}
-use Rattle.std.proofs.lemmas.List.{length-map}
+use Rattle.std.proofs.Common.{◌≡◌, ℕ, ◌+◌, ◌≤◌, not, Bool, List, [], ◌++◌, filter, length, map, All, Option, None, refl, sym, ap, ap₂, ◌∙◌, subst, length-append, reverse, arith}
+use Rattle.std.proofs.lemmas.List.{length-map, map-append}
 use Rattle.std.proofs.lemmas.List.Elements.{filter-append}
 use Rattle.ipnet_addr.specs.Addresses.{Family, Ipv4, Ipv6, Address, width}
 use Rattle.ipnet_addr.proofs.Ascending.{All-from_In, In-from_All}
@@ -13,7 +12,7 @@ use Rattle.nearest_table.specs.Edits.{AreEdits, blocks, installed_in}
 use Rattle.least_table.specs.Nearest as near
 use Rattle.nearest_table.specs.Told.{told_hop}
 use Rattle.route_choices.specs.Hops.{IsHop}
-use Rattle.route_choices.proofs.Kept.{In-from_filter, In-map, map_append}
+use Rattle.route_choices.proofs.Kept.{In-from_filter, In-map}
 use Rattle.route_laws.specs.Fewest.{GivesInside}
 use Rattle.route_laws.specs.LeastTables.{HasHops}
 use Rattle.route_laws.specs.Nearest.{AreUpdates}
@@ -150,10 +149,10 @@ module _ (M C rs : List Route) (old : IsTable M) (changes : Changes rs) (told : 
 
     operations_are : operations_of es4 es6 ≡ between M (four ++ six)
     operations_are = ap₂ (λ rs os. installs (reverse rs) ++ os) (sym missing_are)
-        (map_append Remove (blocks_in Ipv4 es4) (blocks_in Ipv6 es6)
+        (map-append Remove (blocks_in Ipv4 es4) (blocks_in Ipv6 es6)
         ∙ ap₂ (λ xs ys. xs ++ ys) (sym (removes_gone Ipv4 es4 made4 (four ++ six) has.table here4))
         (sym (removes_gone Ipv6 es6 made6 (four ++ six) has.table here6))
-        ∙ sym (map_append (λ (r : Route). Remove r.block) gone4 gone6)
+        ∙ sym (map-append (λ (r : Route). Remove r.block) gone4 gone6)
         ∙ ap removes (sym surplus_are))
 
     count : length (between M (four ++ six)) ≡ near.distance (bits_of Ipv4 M) (made_table Ipv4 es4 made4) + near.distance

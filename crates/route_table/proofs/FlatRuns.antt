@@ -1,5 +1,5 @@
 -- The flat list is the blocks of the first run, and then that of the hops that are left.
-use Rattle.std.proofs.Common.{◌≡◌, ℕ, ◌+◌, ◌^◌, ◌==◌, ◌<◌, ◌≤◌, ◌⊎◌, inl, inr, ⊎_elim, Bool, true, List, [], ◌∷◌, ◌++◌, map, filter, Option, Some, None, refl, sym, ap, ◌∙◌, subst, arith, append-nil}
+use Rattle.std.proofs.Common.{◌≡◌, ℕ, ◌+◌, ◌^◌, ◌==◌, ◌<◌, ◌≤◌, ◌⊎◌, inl, inr, ⊎_elim, true, List, [], ◌∷◌, ◌++◌, map, filter, Option, Some, None, refl, sym, ap, ◌∙◌, subst, arith, append-nil}
 use Rattle.std.proofs.lemmas.Bool.{cases_lt}
 use Rattle.std.proofs.lemmas.Bool.Decides.{nat_tests}
 use native.Mathlib.Decide.{ℕ_discrete}
@@ -92,9 +92,6 @@ module _ (f : Family) (s : Span) (n : ℕ) (h later : Address → Option ℕ) (i
             (cases_lt y.number (s.last + 2)),
       ))
       (past y n e)
-
-  test : ℕ → Piece → Bool
-  test k p = p.number == k
 
   joined_here : IsMaximal (λ x. h x ≡ Some n) (bs ++ blocks_of (filter (λ p. p.number == n) ps))
   joined_here = maximal_same (λ x. S x ⊎ (later x ≡ Some n)) (λ x. h x ≡ Some n)

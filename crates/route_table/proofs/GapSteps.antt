@@ -1,6 +1,5 @@
 -- The gaps of a walk over the routes inside a network, one route after another.
-use Rattle.std.proofs.Common.{◌≡◌, ℕ, ◌+◌, ◌-◌, ◌<◌, ◌≤◌, Bool, cond, nat_lt, max, List, [], ◌∷◌, length, ap, ◌∙◌}
-use Rattle.std.proofs.lemmas.Bool.{lt-ltb, le-ltb}
+use Rattle.std.proofs.Common.{◌≡◌, ℕ, ◌+◌, ◌-◌, ◌<◌, ◌≤◌, Bool, cond, nat_lt, max, List, [], ◌∷◌, length, ap, ◌∙◌, lt-ltb, le-ltb}
 use Rattle.ipnet_addr.specs.Addresses.{Family}
 use Rattle.ipnet_blocks.specs.Blocks.{bit_string, first, last}
 use Rattle.ipnet_blocks.specs.Networks.{Network, block_of}

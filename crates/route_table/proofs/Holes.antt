@@ -1,6 +1,5 @@
 -- A network that governs no address, as a block that the routes strictly inside cover.
-use Rattle.std.proofs.Common.{◌≡◌, ◌-◌, ◌≤◌, ⊎_elim, inl, inr, Bool, true, false, List, [], ◌∷◌, ◌++◌, length, drop, refl, sym, ap, ◌∙◌, subst, arith}
-use Rattle.std.proofs.Math.ListN.{length-append}
+use Rattle.std.proofs.Common.{◌≡◌, ◌-◌, ◌≤◌, ⊎_elim, inl, inr, Bool, true, false, List, [], ◌∷◌, ◌++◌, length, drop, refl, sym, ap, ◌∙◌, subst, length-append, arith}
 use Rattle.ipnet_addr.specs.Addresses.{Address, Family, IsAddress, width}
 use Rattle.ipnet_addr.proofs.Members.{In}
 use Rattle.ipnet_addr.proofs.Ascending.{Contains-from_In, In-from_All, In-from_Contains}

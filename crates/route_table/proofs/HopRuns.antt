@@ -1,7 +1,6 @@
 -- The addresses of a run, and the blocks that they are cut into.
-use Rattle.std.proofs.Common.{◌≡◌, ℕ, ◌^◌, ◌<◌, ◌≤◌, ◌⊎◌, inl, inr, ⊎_elim, ◌↔◌, Any, List, [], ◌∷◌, ◌++◌, map, None, refl, sym, ap, ◌∙◌, subst, arith}
+use Rattle.std.proofs.Common.{◌≡◌, ℕ, ◌^◌, ◌<◌, ◌≤◌, ◌⊎◌, inl, inr, ⊎_elim, ◌↔◌, Any, List, [], ◌∷◌, ◌++◌, map, None, refl, sym, ap, ◌∙◌, subst, pow_pos, arith}
 use Rattle.std.proofs.lemmas.Bool.{cases_lt}
-use Rattle.std.proofs.lemmas.Nat.{pow_pos}
 use Rattle.ipnet_addr.specs.Addresses.{Family, Ipv4, Ipv6, width, rank, Address}
 use Rattle.ipnet_addr.proofs.Families.{rank_apart}
 use Rattle.ipnet_addr.proofs.Ascending.{Contains-from_In, In-from_Any, Any-from_In}

@@ -1,6 +1,6 @@
 -- Tables of one family as tables over bit strings.
-use Rattle.std.proofs.Common.{◌≡◌, ℕ, suc, ◌^◌, ◌<◌, ◌≤◌, ⊎_elim, Bool, IsTrue, inl, inr, List, [], ◌∷◌, ◌++◌, length, All, AllPairs, IfOk, IfSome, Result, Ok, Err, Option, Some, None, refl, sym, ap, ap₂, ◌∙◌, subst, arith}
-use Rattle.std.specs.declared.cmp.Ordering.TheVariants.{Less}
+use Rattle.std.proofs.Common.{◌≡◌, ℕ, suc, ◌^◌, ◌<◌, ◌≤◌, ⊎_elim, Bool, IsTrue, inl, inr, List, [], ◌∷◌, ◌++◌, length, All, AllPairs, IfOk, IfSome, Result, Ok, Err, Option, Some, None, refl, sym, ap, ap₂, ◌∙◌, subst, Less, arith}
+use Rattle.std.proofs.lemmas.List.{map-append}
 use Rattle.ipnet.proofs.IpNetworks.{net_family}
 use Rattle.ipnet_addr.specs.Addresses.{Family, Ipv4, Ipv6, Address, width}
 use Rattle.ipnet_addr.proofs.Members.{In, In-cases}
@@ -18,14 +18,14 @@ use Rattle.trie_core.specs.Bits.{number_from}
 use Rattle.route_choices.specs.Choices.{default_preference}
 use Rattle.route_choices.specs.Hops.{IsHop, hop_from}
 use Rattle.route_choices.specs.declared.hop.Hop.{Hop}
-use Rattle.route_choices.proofs.Kept.{In-map, map_In, map_append}
+use Rattle.route_choices.proofs.Kept.{In-map, map_In}
 use Rattle.route_laws.specs.Fewest.{GivesInside, IsFewest}
 use Rattle.route_table.specs.InnerLeast.{ArePieces, AreLeast, AreLeastOf, entries_of, least_items}
 use Rattle.route_table.specs.InnerFamilyTables.{block_at}
 use Rattle.route_laws.specs.LeastTables.{IsLeast, routes_for}
 use Rattle.route_laws.specs.Tables.{Route, IsTable, route_of}
 use Rattle.route_laws.proofs.Families.{least_of_families}
-use Rattle.route_laws.proofs.Fewest.{number_from_hop}
+use Rattle.route_laws.proofs.Fewest.{number_from_hop, fits_hop}
 use Rattle.route_table.proofs.FamilyBits.{AllOf, all_inside, family_gives, gives_bits, lengths}
 use Rattle.route_laws.proofs.NetworksAt.{of_network_at}
 use Rattle.route_laws.proofs.Insides.{Sooner, table_of}
@@ -59,10 +59,6 @@ truncated_at b = go b.family (net_of b) (ap net_of (sym (block_round_trip b)))
 
 abbrev IsLess : List Bool × Option ℕ → List Bool × Option ℕ → Type 0
 IsLess r s = bits_cmp r.0 s.0 ≡ Less
-
-is_hop : (k : Option ℕ) → IfSome k (λ n. n < 2 ^ 32) → IsHop (hop_from k)
-is_hop None small = tt
-is_hop (Some n) small = small
 
 module _ (f : Family) {K : Type 0} (bits_in : K → List Bool) (of_bits : List Bool → K) (parts_in : K → Network) (parts_are : (s : List Bool) → parts_in (of_bits s) ≡ record { number = number_from (width f) s; len = length s }) where
   -- the route of a key
@@ -125,7 +121,7 @@ module _ (f : Family) {K : Type 0} (bits_in : K → List Bool) (of_bits : List B
           (λ q i. let t = In-routes table q i in
           let r = t.0 in
           let okb : IsBlock (block (net_in f (parts_in r.0))) = subst IsBlock (sym (block_is r (ok r t.1))) (block_at_is_block f (bits_in r.0) (ok r t.1).0) in
-          let okh : IsHop (hop_from r.1) = is_hop r.1 (sound_at r t.1).2 in
+          let okh : IsHop (hop_from r.1) = fits_hop r.1 (sound_at r t.1).2 in
           subst (λ (v : Route). IsBlock v.block × IsHop v.hop) (sym t.2) (okb, okh))
           (rises table ok (Rising-from_pairs IsLess (strings bits_in table) ordered));
       in_family = All-from_In (λ (u : IpNet × Hop). family u.0 ≡ f) (least_items f parts_in table) (λ u i. let t = item u i in subst (λ (v : IpNet × Hop). family v.0 ≡ f) (sym t.2) (net_family f (parts_in (t.0).0)));
@@ -158,7 +154,7 @@ module _ (ps qs : List (List Bool × ℕ)) (ns ms : List (IpNet × Hop)) (v4 : A
   least_of_both h pieces4 pieces6 =
       let A = family_routes Ipv4 ns v4.in_family in
       let B = family_routes Ipv6 ms v6.in_family in
-      subst (λ N. IsLeast h N) (sym (map_append (λ (r : IpNet × Hop). route_of r.0 r.1 default_preference) ns ms)) (least_of_families h (routes_for ns) (routes_for ms)
+      subst (λ N. IsLeast h N) (sym (map-append (λ (r : IpNet × Hop). route_of r.0 r.1 default_preference) ns ms)) (least_of_families h (routes_for ns) (routes_for ms)
       (least_gives Ipv4 h ps pieces4 (routes_for ns) v4.table A v4.least) (least_gives Ipv6 h qs pieces6 (routes_for ms) v6.table B v6.least)
       (family_fewest Ipv4 h ps pieces4 (routes_for ns) v4.table A v4.least) (family_fewest Ipv6 h qs pieces6 (routes_for ms) v6.table B v6.least))
 

@@ -37,7 +37,6 @@ pub mod FewestUpdates
 pub mod LeastBits
 pub mod BetweenSteps
 pub mod Paints
-pub mod UpdateRows
 pub mod Updating
 pub mod GapSteps
 pub mod Holes

@@ -12,7 +12,7 @@ use Rattle.least_table.proofs.Sets.{same_hop-true}
 use Rattle.nearest_table.specs.Edits.{AreEdits, blocks, installed_in}
 use Rattle.least_table.specs.Nearest as near
 use Rattle.route_choices.specs.Hops.{IsHop, number_of}
-use Rattle.route_choices.proofs.Kept.{In-filter, In-from_filter, In-map, filter_map_swap, map_In, same_kept}
+use Rattle.route_choices.proofs.Kept.{In-filter, In-from_filter, In-map, filter_map_swap, map_In, same_kept, map_same}
 use Rattle.route_laws.specs.Operations.{Operation, Remove, is_held, removes, same_route}
 use Rattle.route_laws.specs.Tables.{Route, IsTable}
 use Rattle.route_laws.proofs.Between.{route_itself}
@@ -27,11 +27,6 @@ use Rattle.route_table.proofs.PartBits.{bits_of, held_bits, part, part_all, same
 use Rattle.route_table.proofs.Strings.{block_at_is_block, block_of_string, string_of_block}
 
 -- maps that agree on the members
-map_same : {A B : Type 0} (g k : A → B) (xs : List A) → ((a : A) → In a xs → g a ≡ k a) → map g xs ≡ map k xs
-map_same g k [] h = refl
-map_same {A} {B} g k (x ∷ xs) h = ap (λ (y : B). y ∷ map g xs) (h x (inl refl))
-    ∙ ap (λ (ys : List B). k x ∷ ys) (map_same g k xs (λ a i. h a (inr i)))
-
 module _ (f : Family) where
   -- the route of L with this entry, or a new one
   abbrev kept : List Route → List Bool × Option ℕ → Route

@@ -1,6 +1,5 @@
 -- A table of one route, as searches of blocks see it.
-use Rattle.std.proofs.Common.{◌≡◌, ℕ, suc, ◌<◌, ◌≤◌, ◌↔◌, Bool, true, false, cond, not, nat_lt, List, [], ◌∷◌, length, Option, Some, None, refl, sym, ap, ◌∙◌, arith}
-use Rattle.std.proofs.lemmas.Bool.{le-ltb, lt-ltb}
+use Rattle.std.proofs.Common.{◌≡◌, ℕ, suc, ◌<◌, ◌≤◌, ◌↔◌, Bool, true, false, cond, not, nat_lt, List, [], ◌∷◌, length, Option, Some, None, refl, sym, ap, ◌∙◌, le-ltb, lt-ltb, arith}
 use Rattle.ipnet_blocks.specs.BitStrings.{begins}
 use Rattle.least_table.specs.Tables.{longest_route, own}
 use Rattle.nearest_table.specs.Asked.{hop_if}

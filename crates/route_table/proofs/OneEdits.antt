@@ -1,5 +1,6 @@
 -- The edits of both families for one change.
 use Rattle.std.proofs.Common.{◌≡◌, ⊎_elim, Bool, List, [], ◌∷◌, All, Option, ℕ, refl, sym, subst}
+use Rattle.std.proofs.lemmas.List.Elements.{All-nil}
 use Rattle.ipnet_addr.specs.Addresses.{Ipv4, Ipv6, width}
 use Rattle.ipnet_addr.proofs.Ascending.{All-from_In, pairs_from_Rising}
 use Rattle.ipnet_blocks.specs.Blocks.{IsBlock}
@@ -23,9 +24,6 @@ Edit = List Bool × Option (Option ℕ)
 all_one : (P : Route → Type 0) (r : Route) → P r → All P (r ∷ [])
 all_one P r p = All-from_In P (r ∷ []) (λ q i. ⊎_elim (λ e. subst P (sym e) p) (λ j. absurd j) i)
 
-all_none : (P : Route → Type 0) → All P []
-all_none P = All-from_In P [] (λ q i. absurd i)
-
 -- the edits of a family without changes
 pub no_edits : (w : ℕ) (t : List (List Bool × Option ℕ)) (es : List Edit) → bits.IsBitTable w t → IsInOrder t → es ≡ [] → MakeNearest w [] t es × AreWithin w es
 no_edits w t es table order e = let made = subst (MakeNearest w [] t) (sym e) (made_none w t table order) in (made, edits_within w [] t es table made)
@@ -46,7 +44,7 @@ module _ (r : Route) (block : IsBlock r.block) (hop : IsHop r.hop) (M M4 M6 : Li
       changed_v6 = [];
       installed_v4 = M4;
       installed_v6 = M6;
-      changed = record { routes = refl; table = table; ipv4 = all_one (λ q. q.block.family ≡ Ipv4) r f; ipv6 = all_none (λ q. q.block.family ≡ Ipv6) };
+      changed = record { routes = refl; table = table; ipv4 = all_one (λ q. q.block.family ≡ Ipv4) r f; ipv6 = All-nil (λ q. q.block.family ≡ Ipv6) };
       installed = installed;
       ipv4 = four.0;
       ipv6 = six.0;
@@ -64,7 +62,7 @@ module _ (r : Route) (block : IsBlock r.block) (hop : IsHop r.hop) (M M4 M6 : Li
       changed_v6 = r ∷ [];
       installed_v4 = M4;
       installed_v6 = M6;
-      changed = record { routes = refl; table = table; ipv4 = all_none (λ q. q.block.family ≡ Ipv4); ipv6 = all_one (λ q. q.block.family ≡ Ipv6) r f };
+      changed = record { routes = refl; table = table; ipv4 = All-nil (λ q. q.block.family ≡ Ipv4); ipv6 = all_one (λ q. q.block.family ≡ Ipv6) r f };
       installed = installed;
       ipv4 = four.0;
       ipv6 = six.0;

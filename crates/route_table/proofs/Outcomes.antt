@@ -1,27 +1,6 @@
 -- What holds of an answer holds of it in other words.
-use Rattle.std.proofs.Common.{◌≡◌, Bool, true, false, is_some, Option, Some, None, Result, Ok, Err, sym, ap, subst}
+use Rattle.std.proofs.Common.{◌≡◌, Bool, true, false, is_some, Option, Result, Ok, Err, sym, ap, subst, IfSome, OnErr}
 use Rattle.std.specs.Bool.{then_some}
-use Rattle.std.specs.Prelude.{IfErr, IfOk, IfSome, OnErr, OnOk}
-
-pub if_ok : {T E : Type 0} (P Q : T → Type 0) (r : Result T E) → ((v : T) → P v → Q v) → IfOk r P → IfOk r Q
-if_ok P Q (Ok v) f h = f v h
-if_ok P Q (Err e) f h = h
-
-pub if_some : {T : Type 0} (P Q : T → Type 0) (o : Option T) → ((v : T) → P v → Q v) → IfSome o P → IfSome o Q
-if_some P Q None f h = h
-if_some P Q (Some v) f h = f v h
-
-pub if_err : {T E : Type 0} (P Q : E → Type 0) (r : Result T E) → ((e : E) → P e → Q e) → IfErr r P → IfErr r Q
-if_err P Q (Ok v) f h = h
-if_err P Q (Err e) f h = f e h
-
-pub on_ok : {T E : Type 0} (P Q : Type 0) (r : Result T E) → (P → Q) → OnOk r P → OnOk r Q
-on_ok P Q (Ok v) f h = f h
-on_ok P Q (Err e) f h = h
-
-pub on_err : {T E : Type 0} (P Q : Type 0) (r : Result T E) → (P → Q) → OnErr r P → OnErr r Q
-on_err P Q (Ok v) f h = h
-on_err P Q (Err e) f h = f h
 
 pub when_err : {T E P : Type 0} (r : Result T E) → P → OnErr r P
 when_err (Ok v) p = tt

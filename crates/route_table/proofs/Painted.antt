@@ -1,7 +1,6 @@
 -- What the routes of a family paint is the hop of the longest match.
-use Rattle.std.proofs.Common.{◌≡◌, ℕ, ◌+◌, ◌-◌, ◌^◌, ◌<◌, ◌≤◌, ◌⊎◌, inl, inr, ⊎_elim, ◌&&◌, cond, nat_le, List, [], ◌∷◌, map, Option, Some, None, refl, sym, ap, ◌∙◌, subst, arith}
+use Rattle.std.proofs.Common.{◌≡◌, ℕ, ◌+◌, ◌-◌, ◌^◌, ◌<◌, ◌≤◌, ◌⊎◌, inl, inr, ⊎_elim, ◌&&◌, cond, nat_le, List, [], ◌∷◌, map, Option, Some, None, refl, sym, ap, ◌∙◌, subst, pow_pos, arith}
 use Rattle.std.proofs.lemmas.Bool.{cases_lt, cond-true, cond-false}
-use Rattle.std.proofs.lemmas.Nat.{pow_pos}
 use Rattle.ipnet_addr.specs.Addresses.{Family, Ipv4, Ipv6, width, rank, Address, IsAddress}
 use Rattle.ipnet_addr.proofs.Members.{In}
 use Rattle.ipnet_addr.proofs.Ascending.{In-from_Contains, Contains-from_In, Rising, pairs_from_Rising, All-from_In}

@@ -1,8 +1,7 @@
 -- Parts of a walk of a side's map, as parts of the side.
-use Rattle.std.proofs.Common.{◌≡◌, ◌≤◌, Bool, true, false, ◌&&◌, not, cond, List, length, filter, map, refl, sym, ap, ◌∙◌, subst}
+use Rattle.std.proofs.Common.{◌≡◌, ◌≤◌, Bool, true, false, ◌&&◌, not, cond, List, length, filter, map, refl, sym, ap, ◌∙◌, subst, is_lt}
 use Rattle.std.specs.FinMap.{entries}
 use Rattle.std.specs.FinMap.Entries.{where_key}
-use Rattle.std.specs.Ordering.{is_lt}
 use Rattle.trie_core.proofs.Order.{is_less}
 use Rattle.ipnet_addr.specs.Addresses.{Family, width, same_family}
 use Rattle.ipnet_addr.proofs.Members.{In}

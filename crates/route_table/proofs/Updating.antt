@@ -1,8 +1,9 @@
 -- Changes as a table, the block around them, and the operations of edits, one after another.
-use Rattle.std.proofs.Common.{◌≡◌, ℕ, ◌+◌, ◌<◌, ◌≤◌, ◌⊎◌, inl, inr, ⊎_elim, Bool, true, false, List, [], ◌∷◌, ◌++◌, All, Option, Some, None, length, map, take, refl, sym, ap, ◌∙◌, subst, not, arith, append_assoc, append-nil}
-use Rattle.std.specs.List.{slice_index_or}
+use Rattle.std.proofs.Common.{◌≡◌, ℕ, ◌+◌, ◌<◌, ◌≤◌, ◌⊎◌, inl, inr, ⊎_elim, Bool, true, false, List, [], ◌∷◌, ◌++◌, All, Option, Some, None, length, map, take, refl, sym, ap, ◌∙◌, subst, not, append_assoc, append-nil, slice_index_or, reverse, arith}
+use Rattle.prefix_trie.proofs.Within.{begins_itself}
+use Rattle.nearest_table.proofs.TreeEdits.{installed-append, removed-append}
+use Rattle.std.proofs.lemmas.List.Elements.{All-push}
 use Rattle.std.proofs.lemmas.List.{map-append, reverse-append, take_more}
-use mathlib.Core.List.{reverse}
 use Rattle.ipnet_addr.specs.Addresses.{Family, Ipv4, Ipv6, width}
 use Rattle.ipnet_addr.proofs.Members.{In, In-cases, In-left}
 use Rattle.ipnet_addr.proofs.Ascending.{All-from_In, In-from_All}
@@ -56,21 +57,13 @@ over_next xs i p l is M N m n = n ∙ ap (λ K. overwritten K (route_for p)) m �
 pub no_changes : AreChanges []
 no_changes = record { blocks = All-from_In (λ (r : Route). IsBlock r.block) [] (λ r i. absurd i); hops = All-from_In (λ (r : Route). IsHop r.hop) [] (λ r i. absurd i) }
 
-all_more : {X : Type 0} (P : X → Type 0) (xs : List X) (x : X) → All P xs → P x → All P (xs ++ x ∷ [])
-all_more P xs x all p = All-from_In P (xs ++ x ∷ []) (λ y i. ⊎_elim (λ j. In-from_All P xs all y j) (λ j. ⊎_elim (λ e. subst P (sym e) p) (λ k. absurd k) j) (In-cases y xs (x ∷ []) i))
-
 pub changes_next : (xs : List (IpNet × Hop)) (i : ℕ) (p : IpNet × Hop) → i < length xs → p ≡ slice_index_or xs i p → AreChanges (routes_for (take i xs)) → IsBlock (block p.0) → IsHop p.1 → AreChanges (routes_for (take (i + 1) xs))
 changes_next xs i p l is c b h = subst AreChanges (sym (routes_more xs i p l is)) (record {
-  blocks = all_more (λ (r : Route). IsBlock r.block) (routes_for (take i xs)) (route_for p) c.blocks b;
-  hops = all_more (λ (r : Route). IsHop r.hop) (routes_for (take i xs)) (route_for p) c.hops h;
+  blocks = All-push (λ (r : Route). IsBlock r.block) (routes_for (take i xs)) (route_for p) c.blocks b;
+  hops = All-push (λ (r : Route). IsHop r.hop) (routes_for (take i xs)) (route_for p) c.hops h;
 })
 
 -- ---- the block around
-
-pub begins_itself : (a : List Bool) → begins a a ≡ true
-begins_itself [] = refl
-begins_itself (true ∷ a) = begins_itself a
-begins_itself (false ∷ a) = begins_itself a
 
 -- all of these routes have strings that the block begins
 abbrev pub AreBegun : List Bool → List Route → Type 0
@@ -119,16 +112,6 @@ after_next M xs i o l is =
 abbrev Edit : Type 0
 Edit = List Bool × Option (Option ℕ)
 
-installed-append : (es gs : List Edit) → installed_in (es ++ gs) ≡ installed_in es ++ installed_in gs
-installed-append [] gs = refl
-installed-append ((b, Some k) ∷ es) gs = ap (λ l. (b, k) ∷ l) (installed-append es gs)
-installed-append ((b, None) ∷ es) gs = installed-append es gs
-
-removed-append : (es gs : List Edit) → removed_in (es ++ gs) ≡ removed_in es ++ removed_in gs
-removed-append [] gs = refl
-removed-append ((b, Some k) ∷ es) gs = removed-append es gs
-removed-append ((b, None) ∷ es) gs = ap (λ l. b ∷ l) (removed-append es gs)
-
 module _ (f : Family) where
   routes-append : (es gs : List Edit) → routes_in f (es ++ gs) ≡ routes_in f es ++ routes_in f gs
   routes-append es gs = ap (map (installed_route f)) (installed-append es gs) ∙ map-append (installed_route f) (installed_in es) (installed_in gs)
@@ -169,7 +152,7 @@ module _ (f : Family) where
 
   -- one operation more
   truncated_more : (os : List Given.Operation) (o : Given.Operation) → IsTruncated (family (network_of o)) (parts (network_of o)) → AreTruncated os → AreTruncated (os ++ o ∷ [])
-  truncated_more os o t all = all_more (λ (p : Given.Operation). IsTruncated (family (network_of p)) (parts (network_of p))) os o all t
+  truncated_more os o t all = All-push (λ (p : Given.Operation). IsTruncated (family (network_of p)) (parts (network_of p))) os o all t
 
   at_block : (b : List Bool) (net : IpNet) → net ≡ network_at (block_at f b) → block net ≡ block_at f b
   at_block b net n = ap block n ∙ of_network_at (block_at f b)
@@ -190,10 +173,6 @@ module _ (f : Family) where
     operations = map-append operation_of os (One.Remove net ∷ []) ∙ (λ i. map operation_of os ++ Remove (at_block b net n i) ∷ []);
     truncated = truncated_more os (One.Remove net) (bare_bits b net n);
   }
-
-pub none_left : {X : Type 0} (xs : List X) → length xs ≡ 0 → xs ≡ []
-none_left [] e = refl
-none_left (x ∷ xs) e = absurd (omega (arith, e))
 
 pub none_truncated : AreTruncated []
 none_truncated = All-from_In (λ (o : Given.Operation). IsTruncated (family (network_of o)) (parts (network_of o))) [] (λ o i. absurd i)

@@ -1,6 +1,5 @@
 -- The remaining operations between two tables.
-use Rattle.std.specs.Prelude.{◌≡◌, All, List, [], ◌∷◌, ◌++◌, Option, MatchOption}
-use mathlib.Core.List.{reverse}
+use Rattle.std.specs.Prelude.{◌≡◌, All, List, [], ◌∷◌, ◌++◌, Option, MatchOption, reverse}
 use Rattle.ipnet_blocks.specs.Networks.{IsTruncated}
 use Rattle.ipnet.specs.IpNets.{block, family, parts, network_at}
 use Rattle.ipnet.specs.declared.ip_net.IpNet.{IpNet}

@@ -1,6 +1,5 @@
 -- The rest of a walk over a side's trie.
-use Rattle.std.specs.Prelude.{◌≡◌, ℕ, ◌≤◌, Bool, List, [], All, Option, MatchOption, length}
-use Rattle.std.specs.Option.{option_map}
+use Rattle.std.specs.Prelude.{◌≡◌, ℕ, ◌≤◌, Bool, List, [], All, Option, MatchOption, length, option_map}
 use Rattle.ipnet_addr.specs.Addresses.{Family}
 use Rattle.ipnet_blocks.specs.Networks.{Network}
 use Rattle.ipnet.specs.IpNets.{net_in}

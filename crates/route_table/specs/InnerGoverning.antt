@@ -1,6 +1,5 @@
 -- The addresses that a network governs, as the gaps between the routes inside it.
-use Rattle.std.specs.Prelude.{◌≡◌, ℕ, ◌+◌, ◌-◌, ◌<◌, ◌≤◌, ◌^◌, Bool, true, false, nat_lt, cond, max, length, List, [], ◌∷◌, ◌++◌, Option, MatchOption, All}
-use Rattle.std.specs.List.{flat_map}
+use Rattle.std.specs.Prelude.{◌≡◌, ℕ, ◌+◌, ◌-◌, ◌<◌, ◌≤◌, ◌^◌, Bool, true, false, nat_lt, cond, max, length, List, [], ◌∷◌, ◌++◌, Option, MatchOption, All, flat_map}
 use Rattle.ipnet_addr.specs.Addresses.{Address, Family, width}
 use Rattle.ipnet_blocks.specs.Blocks.{Block, first, last}
 use Rattle.ipnet_blocks.specs.Cuts.{cut}

@@ -1,6 +1,5 @@
 -- Changes as a table, and the operations of edits of both families.
-use Rattle.std.specs.Prelude.{◌≡◌, ◌≤◌, ℕ, Bool, List, [], ◌∷◌, ◌++◌, All, MatchOption, Option, length, map}
-use mathlib.Core.List.{reverse}
+use Rattle.std.specs.Prelude.{◌≡◌, ◌≤◌, ℕ, Bool, List, [], ◌∷◌, ◌++◌, All, MatchOption, Option, length, map, reverse}
 use Rattle.ipnet_addr.specs.Addresses.{Family, Ipv4, Ipv6, width}
 use Rattle.ipnet_blocks.specs.Blocks.{Block, bit_string}
 use Rattle.ipnet_blocks.specs.Networks.{IsTruncated}

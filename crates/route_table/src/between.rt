@@ -1,5 +1,5 @@
 //! The operations that turn one table into another.
-ghost use Rattle.std.specs.Prelude.{◌≡◌, ◌++◌, All};
+ghost use Rattle.std.specs.Prelude.{◌≡◌, All};
 ghost use Rattle.std.specs.Iterator.{item_count};
 ghost use Rattle.ipnet_blocks.specs.Blocks.{Block, IsBefore, IsBlock};
 ghost use Rattle.ipnet_blocks.specs.Networks.{IsTruncated};
@@ -111,10 +111,19 @@ impl<'a> Removes<'a> {
 }
 
 /// An iterator over the operations between two tables. Does not allocate.
-#[derive(Drop)]
 pub struct Between<'a> {
     installs: Installs<'a>,
     removes: Removes<'a>,
+}
+
+/// A destructor of its own: see `FamilyRoutes`.
+impl<'a> Drop for Between<'a> {
+    fn drop(self) {
+        let Between {
+            installs: _,
+            removes: _,
+        } = self;
+    }
 }
 
 impl<'a> Model for Between<'a> {

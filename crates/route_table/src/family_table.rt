@@ -1,6 +1,5 @@
 //! One side of a table: the networks of one family.
-ghost use Rattle.std.specs.Prelude.{◌≡◌, ◌≢◌, ◌<◌, ◌≤◌, ◌+◌, ◌/◌, [], ◌∷◌, IfErr, IfOk, IfSome, IsOk, IsTrue, OnErr, OnOk, ◌↔◌, false, is_some, not, if◌then◌else◌};
-ghost use Rattle.std.specs.Option.{option_map};
+ghost use Rattle.std.specs.Prelude.{◌≡◌, ◌≢◌, ◌<◌, ◌≤◌, ◌+◌, ◌/◌, [], ◌∷◌, IfErr, IfOk, IfSome, IsOk, IsTrue, OnErr, OnOk, ◌↔◌, false, is_some, not, if◌then◌else◌, option_map};
 ghost use Rattle.ipnet_blocks.specs.Blocks.{IsBlock, bit_string};
 ghost use Rattle.ipnet_blocks.specs.Networks.{block_of};
 ghost use Rattle.trie_core.specs.Count.{nodes, visit_count};

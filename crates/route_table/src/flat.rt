@@ -1,5 +1,5 @@
 //! The flat list of a table: the shortest list of one-hop blocks that covers all addresses with a hop.
-ghost use Rattle.std.specs.Prelude.{◌≡◌, ◌+◌, ◌++◌, [], List};
+ghost use Rattle.std.specs.Prelude.{◌≡◌, ◌++◌, [], List};
 ghost use Rattle.std.specs.Iterator.{item_count};
 ghost use Rattle.route_laws.specs.Flats.{IsFlat};
 ghost use Rattle.route_table.specs.InnerFlattening.{AreBoth, GivesPieces, pieces_of};
@@ -78,10 +78,16 @@ impl<'a> BothRuns<'a> {
 
 /// The maximal blocks of the addresses of each hop, as networks without host bits, each with its hop number, ascending. Does not
 /// allocate.
-#[derive(Drop)]
 pub struct Flat<'a> {
     pub(crate) pieces: Pieces,
     pub(crate) runs: BothRuns<'a>,
+}
+
+/// A destructor of its own: see `FamilyRoutes`.
+impl<'a> Drop for Flat<'a> {
+    fn drop(self) {
+        let Flat { pieces: _, runs: _ } = self;
+    }
 }
 
 impl<'a> Model for Flat<'a> {

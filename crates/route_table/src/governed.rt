@@ -1,17 +1,15 @@
 //! The addresses that a network governs: those that no longer stored network inside it contains.
-ghost use Rattle.std.specs.Prelude.{◌≡◌, ℕ, ◌<◌, ◌≤◌, ◌^◌, ◌++◌, All, [], true};
+ghost use Rattle.std.specs.Prelude.{◌≡◌, ◌<◌, ◌≤◌, ◌^◌, All, [], true};
 ghost use Rattle.std.specs.Iterator.{item_count};
 ghost use Rattle.ipnet_addr.specs.Addresses.{width};
 ghost use Rattle.ipnet_blocks.specs.Blocks.{IsBlock, IsInside, first, last};
-ghost use Rattle.ipnet_blocks.specs.Cuts.{cut};
 ghost use Rattle.ipnet_blocks.specs.Maximal.{IsMaximal};
-ghost use Rattle.ipnet_blocks.specs.Networks.{IsNetwork};
 ghost use Rattle.ipnet_blocks.specs.InnerSpans.{limits_of};
-ghost use Rattle.ipnet.specs.IpNets.{block, family, parts};
+ghost use Rattle.ipnet.specs.IpNets.{block, family};
 ghost use Rattle.ipnet.specs.IpSubnets.{ip_cut, ip_limits};
 ghost use Rattle.route_table.specs.InnerFamilies.{family_of};
 ghost use Rattle.route_laws.specs.Tables.{Governed as GovernedBy, IsTable};
-ghost use Rattle.route_table.specs.InnerGoverning.{AreGaps, GivesGap, IsPassed, StepsGap, blocks_left, gaps_left};
+ghost use Rattle.route_table.specs.InnerGoverning.{AreGaps, GivesGap, IsPassed, StepsGap, blocks_left};
 ghost use Rattle.route_table.specs.Items.{GivesBlock};
 
 use crate::address_family::AddressFamily;
@@ -163,10 +161,16 @@ impl<'a> Gaps<'a> {
 }
 
 /// The maximal blocks of the addresses that a network governs, ascending, as networks without host bits. Does not allocate.
-#[derive(Drop)]
 pub struct Governed<'a> {
     gaps: Gaps<'a>,
     blocks: IpSubnets,
+}
+
+/// A destructor of its own: see `FamilyRoutes`.
+impl<'a> Drop for Governed<'a> {
+    fn drop(self) {
+        let Governed { gaps: _, blocks: _ } = self;
+    }
 }
 
 impl<'a> Model for Governed<'a> {

@@ -1,12 +1,12 @@
 //! A table with one route for each network.
-ghost use Rattle.std.specs.Prelude.{◌≡◌, [], IfErr, IfOk, OnErr, OnOk};
+ghost use Rattle.std.specs.Prelude.{◌≡◌, [], ◌∷◌, IfErr, IfOk, OnErr, OnOk};
 ghost use Rattle.ipnet_blocks.specs.Blocks.{IsBlock};
 ghost use Rattle.ipnet.specs.IpNets.{block};
 ghost use Rattle.prefix_trie.specs.declared.refused.Refused.TheVariants.{Memory};
 ghost use Rattle.route_choices.specs.Choices.{default_preference};
 ghost use Rattle.route_choices.specs.Hops.{IsHop};
 ghost use Rattle.route_laws.specs.LeastTables.{routes_for};
-ghost use Rattle.route_laws.specs.Networks.{IsStoredTable, choices_at, routes_of};
+ghost use Rattle.route_laws.specs.Networks.{IsStoredTable, choices_at, routes_of, with_choices};
 ghost use Rattle.route_laws.specs.Tables.{IsTable, route_of, with_route, without_block};
 ghost use Rattle.route_table.specs.Given.{IsEmptied, IsFlatOf};
 
@@ -80,6 +80,7 @@ impl HopTable {
     /// ```
     pub fn install(&mut self, net: IpNet, hop: Hop) -> Result<(), Refused>
         // On success the route is stored with preference 100, in place of any other of its network.
+        ensures networks { OnOk result (self.new ≡ with_choices self.old (block net) (record { hop = hop; pref = default_preference } ∷ [])) }
         ensures routes { OnOk result (routes_of self.new ≡ with_route (routes_of self.old) (route_of net hop default_preference)) }
 
         // Before and after, the stored networks ascend, each with its routes, best first; the network and the hop are valid.
@@ -122,11 +123,7 @@ impl HopTable {
     pub(crate) fn into_flat<'a>(self) -> Result<Flat<'a>, AllocError>
         ensures { IfOk result (λ flat. IsFlatOf (routes_of self) flat) }
     {
-        let HopTable {
-            v4: ipv4,
-            v6: ipv6,
-            alloc,
-        } = self;
+        let (ipv4, ipv6, alloc) = self.into_sides();
         let ipv4 = ipv4.into_routes(alloc)?;
         let ipv6 = ipv6.into_routes(alloc)?;
         Ok(Flat::new(ipv4, ipv6))

@@ -37,10 +37,16 @@ pub(crate) fn hop_of(number: Option<u32>) -> Hop
 
 /// An iterator over the routes of a least table, ascending: each network, without host bits, and its hop. An IPv4 route takes 16 bytes
 /// here and an IPv6 route 48, while in a list of such pairs a route takes 64.
-#[derive(Drop)]
 pub struct LeastRoutes {
     v4: Routes<Ipv4Net>,
     v6: Routes<Ipv6Net>,
+}
+
+/// A destructor of its own: see `FamilyRoutes`.
+impl Drop for LeastRoutes {
+    fn drop(self) {
+        let LeastRoutes { v4: _, v6: _ } = self;
+    }
 }
 
 impl Model for LeastRoutes {

@@ -1,5 +1,5 @@
 //! The blocks of one hop, computed from the networks that have it.
-ghost use Rattle.std.specs.Prelude.{◌≡◌, ◌==◌, ◌++◌, ◌⊎◌, map, filter, All, IfOk, IfErr, OnOk, Some};
+ghost use Rattle.std.specs.Prelude.{◌≡◌, ◌==◌, ◌++◌, map, filter, All, IfOk, IfErr, OnOk, Some};
 ghost use Rattle.ipnet.specs.IpNets.{block, family, parts};
 ghost use Rattle.ipnet_blocks.specs.Maximal.{IsMaximal, IsShortest};
 ghost use Rattle.ipnet_blocks.specs.Networks.{IsTruncated};

@@ -18,9 +18,15 @@ pub(crate) enum Source<'a> {
 
 /// An iterator over routes, ascending: each network, without host bits, its best hop, and the preference of this hop. Does not
 /// allocate.
-#[derive(Drop)]
 pub struct Routes<'a> {
     source: Source<'a>,
+}
+
+/// A destructor of its own: see `FamilyRoutes`.
+impl<'a> Drop for Routes<'a> {
+    fn drop(self) {
+        let Routes { source: _ } = self;
+    }
 }
 
 impl<'a> Model for Routes<'a> {

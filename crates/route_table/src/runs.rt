@@ -1,5 +1,5 @@
 //! The runs of a family: spans of addresses with one hop number.
-ghost use Rattle.std.specs.Prelude.{◌≡◌, ℕ, ◌+◌, ◌<◌, ◌≤◌, ◌^◌, ◌++◌, [], ◌∷◌, MatchOption, All, None, Some, map, false, true, ⊤};
+ghost use Rattle.std.specs.Prelude.{◌≡◌, ℕ, ◌+◌, ◌<◌, ◌≤◌, ◌^◌, MatchOption, All, None, Some, map, false, true, ⊤};
 ghost use Rattle.ipnet_addr.specs.Addresses.{width};
 ghost use Rattle.ipnet_blocks.specs.Blocks.{last, family_block};
 ghost use Rattle.route_table.specs.InnerRunning.{AreRuns, GivesRun, IsPast, StepsRun, coming, hops_left, innermost, joined, topmost, route_span_of, step_of};

@@ -1,6 +1,5 @@
 //! The table.
-ghost use Rattle.std.specs.Prelude.{◌≡◌, ◌<◌, ◌≤◌, ◌+◌, ◌/◌, [], ◌∷◌, ◌++◌, None, All, IfOk, IfErr, IfSome, IsTrue, OnOk, OnErr, ◌↔◌, false, is_some, length, sum_by};
-ghost use Rattle.std.specs.Option.{option_map};
+ghost use Rattle.std.specs.Prelude.{◌≡◌, ◌<◌, ◌≤◌, ◌+◌, ◌/◌, [], ◌∷◌, ◌++◌, None, IfOk, IfErr, IfSome, IsTrue, OnOk, OnErr, ◌↔◌, false, is_some, length, sum_by, option_map};
 ghost use Rattle.ipnet_addr.specs.Addresses.{Ipv4, Ipv6};
 ghost use Rattle.ipnet_blocks.specs.Blocks.{IsBlock, bit_string};
 ghost use Rattle.ipnet.specs.IpNets.{block, family, parts, network_at};
@@ -10,6 +9,7 @@ ghost use Rattle.prefix_trie.specs.declared.refused.Refused.TheVariants.{Memory}
 ghost use Rattle.route_choices.specs.Choices.{holds_hop, is_one_too_many};
 ghost use Rattle.route_choices.specs.Hops.{IsHop};
 ghost use Rattle.route_laws.specs.Bounds.{excess};
+ghost use Rattle.route_table.specs.InnerFamilyTables.{IsFamilyTable};
 ghost use Rattle.route_table.specs.Tries.{map_of};
 ghost use Rattle.route_laws.specs.Networks.{IsLeaf, IsStoredTable, choices_at, routes_of, with_choice, with_choices, without_choice};
 ghost use Rattle.route_table.specs.Refusals.{IsRefused};
@@ -36,11 +36,21 @@ use std::marker::Model;
 pub type RouteTable = Table<8>;
 
 /// A table of networks of both families with room for `CAPACITY` routes of each: `RouteTable` has eight, `HopTable` one.
-#[derive(Drop)]
 pub struct Table<const CAPACITY: usize> {
     pub(crate) v4: FamilyTable<Ipv4Net, CAPACITY>,
     pub(crate) v6: FamilyTable<Ipv6Net, CAPACITY>,
     pub(crate) alloc: Global,
+}
+
+/// A destructor of its own: see `FamilyRoutes`.
+impl<const CAPACITY: usize> Drop for Table<CAPACITY> {
+    fn drop(self) {
+        let Table {
+            v4: _,
+            v6: _,
+            alloc: _,
+        } = self;
+    }
 }
 
 impl<const CAPACITY: usize> Model for Table<CAPACITY> {
@@ -392,6 +402,28 @@ impl<const CAPACITY: usize> Table<CAPACITY> {
             v6: FamilyTable::new(alloc)?,
             alloc,
         })
+    }
+
+    /// The contract says that the stored networks are a table, as the theorems about tables require.
+    pub(crate) fn is_table(&self)
+        ensures { IsStoredTable self.now }
+    {
+        let _ = &self.v4;
+    }
+
+    /// Returns the two sides, owned, and the allocator.
+    pub(crate) fn into_sides(
+        self,
+    ) -> (
+        FamilyTable<Ipv4Net, CAPACITY>,
+        FamilyTable<Ipv6Net, CAPACITY>,
+        Global,
+    )
+        ensures families { IsFamilyTable Ipv4 result.0 × IsFamilyTable Ipv6 result.1 }
+        ensures networks { result.0 ++ result.1 ≡ self.entry }
+    {
+        let Table { v4, v6, alloc } = self;
+        (v4, v6, alloc)
     }
 
     /// The allocator of the table.

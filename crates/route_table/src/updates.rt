@@ -1,5 +1,5 @@
 //! Updates of a table by the fewest operations.
-ghost use Rattle.std.specs.Prelude.{◌≡◌, ◌≤◌, ◌<◌, ℕ, All, [], ◌∷◌, IfErr, IfOk, MatchOption, OnErr, OnOk, IsTrue, length, map, take};
+ghost use Rattle.std.specs.Prelude.{◌≡◌, ◌≤◌, All, [], ◌∷◌, IfErr, IfOk, MatchOption, OnErr, OnOk, IsTrue, length, map};
 ghost use Rattle.ipnet_addr.specs.Addresses.{Ipv4, Ipv6, width};
 ghost use Rattle.ipnet_blocks.specs.BitStrings.{begins};
 ghost use Rattle.ipnet_blocks.specs.Networks.{IsTruncated};
@@ -9,7 +9,7 @@ ghost use Rattle.prefix_trie.specs.declared.refused.Refused.TheVariants.{Memory}
 ghost use Rattle.route_choices.specs.Hops.{IsHop, number_of};
 ghost use Rattle.route_laws.specs.LeastTables.{routes_for};
 ghost use Rattle.route_laws.specs.Nearest.{AreUpdates};
-ghost use Rattle.route_laws.specs.Networks.{routes_of};
+ghost use Rattle.route_laws.specs.Networks.{IsStoredTable, routes_of};
 ghost use Rattle.route_laws.specs.Operations.{after, after_all};
 ghost use Rattle.route_laws.specs.Painted.{AreChanges};
 ghost use Rattle.route_laws.specs.Tables.{IsTable};
@@ -295,11 +295,13 @@ impl HopTable {
     /// ```
     pub fn carry_out(&mut self, operations: &[Operation]) -> Result<(), Refused>
         ensures routes { OnOk result (routes_of self.new ≡ after_all (routes_of self.old) (map operation_of operations.now)) }
+        ensures tables { IsStoredTable self.old × IsStoredTable self.new }
 
         // It fails only for lack of memory, at the first install of a new network that an allocation fails for.
         ensures memory { IfErr result (λ e. e ≡ Memory) }
         ensures first { OnErr result (EndsAtInstall self.old operations.now self.new) }
     {
+        self.is_table();
         for operation in operations {
             self.carry_one(*operation)?;
         }
@@ -309,6 +311,7 @@ impl HopTable {
     /// Carries out one operation.
     fn carry_one(&mut self, operation: Operation) -> Result<(), Refused>
         ensures routes { OnOk result (routes_of self.new ≡ after (routes_of self.old) (operation_of operation)) }
+        ensures tables { IsStoredTable self.old × IsStoredTable self.new }
         ensures memory { IfErr result (λ e. e ≡ Memory) }
         ensures unchanged { OnErr result (self.new ≡ self.old) }
         ensures absent { OnErr result (IsNewInstall self.old operation) }

@@ -31,7 +31,7 @@ impl<const CAPACITY: usize> Table<CAPACITY> {
 }
 
 impl RouteTable {
-    /// Returns the routes of the networks that contain this one, itself included, shortest first. Does not allocate.
+    /// Returns the best routes of the stored networks that contain this one, itself included, shortest first. Does not allocate.
     ///
     /// # Examples
     /// If `wide`, 10.0.0.0/8, has the hop 1, and is the shortest stored network that contains `host`:
@@ -49,8 +49,8 @@ impl RouteTable {
         }
     }
 
-    /// Returns the routes of the network's family from the network on, ascending: its own, those inside it, and all later ones. The
-    /// network need not be stored. Does not allocate.
+    /// Returns the best routes of the family's stored networks from this one on, ascending: its own, those of networks inside it, and all
+    /// later ones. This network need not be stored. Does not allocate.
     ///
     /// # Examples
     /// If `wide`, 10.0.0.0/8, has the hop 1:
@@ -68,8 +68,8 @@ impl RouteTable {
         }
     }
 
-    /// Returns the routes of the network's family after the network, ascending; networks inside it come after it. The network need not be
-    /// stored. Does not allocate.
+    /// Returns the best routes of the family's stored networks after this one, ascending; networks inside it come after it. This network
+    /// need not be stored. Does not allocate.
     ///
     /// # Examples
     /// If `wide`, 10.0.0.0/8, has the hop 1, and `half`, 10.0.0.0/9, the hop 2:

@@ -1,7 +1,7 @@
 //! The program `routes`: reads the lines of a route table from standard input, and writes the replies to standard output.
 #![tactic(auto)]
 
-ghost use Rattle.std.specs.Prelude.{◌≡◌, ◌↔◌, ◌⊎◌, [], ◌∷◌, drop, map, IfErr, IfOk, IfSome, IsErrOf, Ok, OnOk, Some};
+ghost use Rattle.std.specs.Prelude.{◌≡◌, ◌≤◌, ◌+◌, ◌^◌, ◌↔◌, ◌⊎◌, [], ◌∷◌, drop, map, IfErr, IfOk, IfSome, IsErrOf, Ok, OnOk, Some};
 ghost use Rattle.std.specs.String.{string_bytes};
 ghost use Rattle.std.specs.Vec.Iter.{into_iter_items};
 ghost use Rattle.route_program.specs.Counted.{CanRead, CanRun, ReadFault};
@@ -107,6 +107,7 @@ fn run_as<R: Read, W: Write>(
 ) -> Result<(), RunError>
     requires { CanRun reader.old writer.old }
     ensures ends { ModeEnds R.remaining W.contents mode reader.old reader.new writer.old writer.new result }
+    ensures reads { reader.new.reads ≤ reader.old.reads + 2 ^ 62 }
     ensures known { OnOk result (IfSome (R.remaining reader.old.device) (λ bytes. ModeWrites mode bytes (W.contents writer.old.device) (W.contents writer.new.device))) }
 {
     match mode {
@@ -132,6 +133,7 @@ fn run_mode<R: Read, W: Write + Drop>(
     ensures write { IsErrOf result RunError.Write → MayFailToWrite R.remaining mode reader.old reader.new }
     ensures line { IsErrOf result RunError.Line → ((mode ≡ Mode.Follow) ⊎ (mode ≡ Mode.Least)) × MeetsAnother R.remaining reader.old reader.new }
     ensures read_well { (IsErrOf result RunError.Read → ⊥) → reader.new.faults ≡ reader.old.faults }
+    ensures reads { reader.new.reads ≤ reader.old.reads + 2 ^ 62 }
 {
     let Ok(buffered) = BufWriter::with_capacity(alloc, OUTPUT_BUFFER, output) else {
         return Err(RunError::Memory);

@@ -1,5 +1,5 @@
 -- What the fields of a `BoxedContent` own: facts alone, of the pointer and of the allocator, so that it is had for nothing.
-use Rattle.std.proofs.Common.{◌≡◌, List, [], ◌∷◌, Option, Some, None, is_some, true, true≢false, refl, sym}
+use Rattle.std.proofs.Common.{◌≡◌, List, [], ◌∷◌, Option, Some, None, is_some, true, true≢false, refl, sym, Global}
 use seplogic.Ra.Ura.{Ura}
 use mir.Val.{Val, vunit, vstruct, vcons, vnil}
 use types.Logic.{Logic}
@@ -9,7 +9,6 @@ use denote.RattleType.{RattleType}
 use denote.Struct.Struct.{Struct, Struct-Makes, Struct-Lawful, Struct-Tells, Plains}
 use denote.Struct.Laws.{lawfuls, makes}
 use denote.Struct.Owning.{Owning, shape, fields, row, to}
-use Rattle.std.specs.Global.{Global}
 use Rattle.std_heap.specs.contracts.Global.{the_row as G, the_field, the_type as global-declared}
 use Rattle.std_heap.proofs.Global.TheLaws as global
 use Rattle.routes_c.specs.contracts.boxed_content.BoxedContent.{the_type, the_row as held-row}

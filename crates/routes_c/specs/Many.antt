@@ -1,6 +1,5 @@
 -- Hops of addresses as numbers, one or many at once.
-use Rattle.std.specs.Prelude.{◌≡◌, ◌+◌, ◌*◌, ◌^◌, ◌++◌, ℕ, List, Option, drop, length, map, min, take}
-use Rattle.std.specs.Option.{option_map}
+use Rattle.std.specs.Prelude.{◌≡◌, ◌+◌, ◌*◌, ◌^◌, ◌++◌, ℕ, List, Option, drop, length, map, min, take, option_map}
 use Rattle.hop_index.specs.Indexes.{Index, hop_number, hop_of}
 use Rattle.ipnet_addr.specs.Addresses.{Ipv4, Ipv6}
 use Rattle.ipnet_blocks.specs.Networks.{block_of}

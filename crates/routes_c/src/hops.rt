@@ -1,5 +1,5 @@
 //! Hops of addresses as numbers, for a table and for an index: one, or many in one call.
-ghost use Rattle.std.specs.Prelude.{◌≡◌, ℕ, ◌+◌, ◌*◌, ◌^◌, ◌≤◌, Some, length, map};
+ghost use Rattle.std.specs.Prelude.{◌≡◌, ℕ, ◌+◌, ◌*◌, ◌^◌, Some, length, map};
 ghost use Rattle.hop_index.specs.Indexes.{hop_number, hop_of};
 ghost use Rattle.ipnet_addr.specs.Addresses.{Ipv6};
 ghost use Rattle.routes_c.specs.Contents.{hops_of_index};

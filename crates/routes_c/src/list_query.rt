@@ -14,13 +14,13 @@ use std::alloc::{AllocError, Global};
 /// The list of routes that a call asks for.
 #[derive(Clone, Copy)]
 pub enum ListQuery {
-    /// The routes of the networks inside a network.
+    /// The best routes of the networks inside a network.
     Inside(IpNet),
-    /// The routes of the networks that contain a network.
+    /// The best routes of the networks that contain a network.
     Cover(IpNet),
-    /// At most this many routes, from a network on.
+    /// The best routes of at most this many networks, from a network on.
     From(IpNet, usize),
-    /// At most this many routes after a network.
+    /// The best routes of at most this many networks after a network.
     After(IpNet, usize),
     /// All routes of a network.
     All(IpNet),

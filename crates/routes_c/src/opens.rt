@@ -70,7 +70,8 @@ pub extern "C" fn routes_follower_close(alloc: Global, follower: &mut Handle)
 
 /// Opens a closed handle as an index of the hops that an open table has now. It is a snapshot: later changes don't reach it.
 ///
-/// Returns 0. Fails with 2 if an allocation fails, 3 if the table is closed, and 4 if the handle is open. Then it is unchanged.
+/// Returns 0. Fails with 2 if an allocation fails or the index would be too large, 3 if the table is closed, and 4 if the handle is open,
+/// whatever else applies. Then it is unchanged.
 #[unsafe(no_mangle)]
 pub extern "C" fn routes_index_open(alloc: Global, index: &mut Handle, table: &mut Handle) -> u32
     requires index { IsHandle index.old }
@@ -90,8 +91,8 @@ pub extern "C" fn routes_index_open(alloc: Global, index: &mut Handle, table: &m
 
 /// Opens a closed handle as an index of the hops that an open follower has now. It is a snapshot: later lines don't reach it.
 ///
-/// Returns 0. Fails with 2 if an allocation fails, 3 if the follower is closed, 4 if the index is open, and 8 after a fault of the
-/// follower. Then the index is unchanged.
+/// Returns 0. Fails with 2 if an allocation fails or the index would be too large, 3 if the follower is closed, 4 if the index is open,
+/// whatever else applies, and 8 after a fault of the follower. Then the index is unchanged.
 #[unsafe(no_mangle)]
 pub extern "C" fn routes_follower_index(
     alloc: Global,

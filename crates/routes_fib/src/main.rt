@@ -2,7 +2,7 @@
 //! output.
 #![tactic(auto)]
 
-ghost use Rattle.std.specs.Prelude.{◌≡◌, ◌↔◌, ◌⊎◌, [], drop, IfErr, IfOk, IfSome, IsErrOf, IsOk};
+ghost use Rattle.std.specs.Prelude.{◌≡◌, ◌≤◌, ◌+◌, ◌^◌, ◌↔◌, ◌⊎◌, [], drop, IfErr, IfOk, IfSome, IsErrOf, IsOk};
 ghost use Rattle.std.specs.Vec.Iter.{into_iter_items};
 ghost use Rattle.route_program.specs.Counted.{CanRead, ReadFault};
 ghost use Rattle.route_installer.specs.Installs.{AppendsInstalled};
@@ -104,6 +104,7 @@ fn install_by<R: Read, W: Write + Drop>(
     ensures memory { IsErrOf result RunError.Memory → (reader.new ≡ reader.old) ⊎ MeetsWantingLine R.remaining reader.old reader.new }
     ensures write { IsErrOf result RunError.Write → MeetsNote R.remaining reader.old reader.new ⊎ ReadsNotes R.remaining reader.old reader.new }
     ensures read_well { (IsErrOf result RunError.Read → ⊥) → reader.new.faults ≡ reader.old.faults }
+    ensures reads { reader.new.reads ≤ reader.old.reads + 2 ^ 62 }
 {
     let Ok(buffered) = BufWriter::with_capacity(alloc, OUTPUT_BUFFER, output) else {
         return Err(RunError::Memory);

@@ -1,15 +1,9 @@
 -- What stands below skipped levels, and what a change there makes of the whole.
-use Rattle.std.proofs.Common.{◌≡◌, ℕ, zero, suc, ◌+◌, ◌*◌, ◌/◌, ◌%◌, ◌^◌, ◌<◌, ◌≤◌, Bool, List, [], ◌∷◌, ◌++◌, length, take, drop, refl, sym, ap, subst, ◌∙◌, arith, inl, inr}
-use Rattle.std.specs.Prelude.{Option, None, count_ones}
-use Rattle.std.specs.Option.{IsSome}
-use Rattle.std.specs.Ordering.{nat_cmp}
+use Rattle.std.proofs.Common.{◌≡◌, ℕ, zero, suc, ◌+◌, ◌*◌, ◌/◌, ◌%◌, ◌^◌, ◌<◌, ◌≤◌, Bool, List, [], ◌∷◌, ◌++◌, length, take, drop, refl, sym, ap, subst, ◌∙◌, inl, inr, Option, None, count_ones, IsSome, nat_cmp, one-mul, length-drop, drop-drop, take_at, drop_at, length-take-le, take-append-drop, take-add, arith}
 use Rattle.std.specs.FinMap.{find, get}
 use Rattle.std.proofs.lemmas.Nat.{shl-shr, shr_split}
 use Rattle.std.proofs.lemmas.Nat.Bits.{bit_at-zero, bit_at-pow_other}
 use Rattle.std.proofs.lemmas.Bool.Decides.{nat_tests}
-use Rattle.std.proofs.Math.Nat.{one-mul}
-use Rattle.std.proofs.lemmas.List.{length-drop, drop-drop, take_at, drop_at, length-take-le, take-append-drop}
-use Rattle.std.proofs.Math.Seq.{take-add}
 use Rattle.std.proofs.lemmas.Bool.{cases_lt, cases_order}
 use Rattle.trie_core.specs.InnerPlaces.{child_of, child_string, at_places}
 use Rattle.trie_core.specs.Bits.{number_from}

@@ -1,11 +1,7 @@
 -- What a change of a node's words and lists makes of it.
-use Rattle.std.proofs.Common.{◌≡◌, ℕ, zero, suc, ◌+◌, ◌-◌, ◌/◌, ◌^◌, ◌<◌, ◌≤◌, Bool, true, false, List, [], ◌∷◌, length, take, drop, get_or, set, refl, sym, ap, subst, ◌∙◌, arith}
-use Rattle.std.specs.Prelude.{max, Some, None, count_ones}
-use Rattle.std.specs.List.{remove}
-use Rattle.std.specs.Ordering.{nat_cmp}
+use Rattle.std.proofs.Common.{◌≡◌, ℕ, zero, suc, ◌+◌, ◌-◌, ◌/◌, ◌^◌, ◌<◌, ◌≤◌, Bool, true, false, List, [], ◌∷◌, length, take, drop, get_or, set, refl, sym, ap, subst, ◌∙◌, max, Some, None, count_ones, remove, nat_cmp, length-drop, arith}
 use Rattle.std.specs.FinMap.{find, get, put, empty, len, empty_of_len}
 use Rattle.std.specs.FinMap as map
-use Rattle.std.proofs.Math.ListN.{length-drop}
 use Rattle.ipnet_blocks.specs.BitStrings.{bits_cmp}
 use Rattle.trie_core.specs.InnerPlaces.{place_of, child_of, child_string, at_places, without, named, child_list, IsSlot, IsUnset}
 use Rattle.trie_core.specs.Nodes.{BitMap, Seen}

@@ -1,15 +1,11 @@
 -- The entries whose keys begin a string, one after another.
-use Rattle.std.proofs.Common.{◌≡◌, ℕ, ◌+◌, ◌-◌, ◌*◌, ◌/◌, ◌%◌, ◌^◌, ◌<◌, ◌≤◌, Bool, true, false, cond, not, ◌&&◌, List, [], ◌∷◌, ◌++◌, length, take, drop, get_or, refl, sym, ap, ◌∙◌, arith, inl, inr}
-use Rattle.std.specs.Prelude.{Option, Some, None, is_some, nat_lt, bit_and, count_ones, MatchOption}
-use Rattle.std.specs.Borrow.{Bor}
-use Rattle.std.specs.declared.cmp.Ordering.TheVariants.{Less}
+use Rattle.std.proofs.Common.{◌≡◌, ℕ, ◌+◌, ◌-◌, ◌*◌, ◌/◌, ◌%◌, ◌^◌, ◌<◌, ◌≤◌, Bool, true, false, cond, not, ◌&&◌, List, [], ◌∷◌, ◌++◌, length, take, drop, get_or, refl, sym, ap, ◌∙◌, inl, inr, Option, Some, None, is_some, nat_lt, bit_and, count_ones, MatchOption, Bor, Less, length-append, length-drop, take-take, arith}
 use Rattle.std.specs.Int.{bit_at}
 use Rattle.std.specs.FinMap.{entries, get, entries_sorted, empty}
 use Rattle.std.specs.FinMap.Entries.{where_key, is_sorted-where_key, same_entries}
 use Rattle.std.proofs.lemmas.Bool.Decides.{nat_tests}
 use Rattle.std.proofs.lemmas.Nat.{shr_split, pow_pos, mod_below}
 use Rattle.std.proofs.lemmas.Nat.Bits.{bit_at-zero, bit_at_cat_low, bit_at_cat_high}
-use Rattle.std.proofs.Math.ListN.{length-append, length-drop}
 use Rattle.std.proofs.lemmas.Bool.{false_from_ne_true, true_from_ne_false, cases_lt}
 use Rattle.ipnet_addr.proofs.Basics.{T-and}
 use Rattle.ipnet_blocks.specs.BitStrings.{bits_cmp, begins}
@@ -29,7 +25,6 @@ use Rattle.trie_core.proofs.Searches.{IsMet, met_beginning, met_place, unset_non
 use Rattle.trie_core.proofs.Frames.{under-under, under_none, found_where}
 use Rattle.trie_core.proofs.Walks.{AreBelow, where_below, entries_none, kept_true}
 use Rattle.std.proofs.Math.Bool.{and-true}
-use Rattle.std.proofs.lemmas.List.{take-take}
 
 -- ---- the bits of a word from one on
 

@@ -1,7 +1,5 @@
 -- Changes of the things at the places of a bitmap.
-use Rattle.std.proofs.Common.{◌≡◌, ℕ, zero, suc, ◌+◌, ◌-◌, ◌/◌, ◌%◌, ◌^◌, ◌<◌, ◌≤◌, true, false, cond, not, List, [], ◌∷◌, length, set, refl, sym, ap, ◌∙◌, arith, inl, inr, ◌*◌}
-use Rattle.std.specs.Prelude.{None, eqb, count_ones, ◌⊎◌, T}
-use Rattle.std.specs.List.{insert, remove}
+use Rattle.std.proofs.Common.{◌≡◌, ℕ, zero, suc, ◌+◌, ◌-◌, ◌/◌, ◌%◌, ◌^◌, ◌<◌, ◌≤◌, true, false, cond, not, List, [], ◌∷◌, length, set, refl, sym, ap, ◌∙◌, inl, inr, ◌*◌, None, eqb, count_ones, ◌⊎◌, T, insert, remove, add-mul, one-mul, arith}
 use Rattle.std.specs.Ordering.{nat_cmp, eq_by_cmp}
 use Rattle.std.specs.FinMap.{find, is_sorted, put}
 use Rattle.std.specs.FinMap.Entries.{below_all}
@@ -11,7 +9,6 @@ use Rattle.ipnet_addr.proofs.Basics.{T-and, T-parts}
 use Rattle.trie_core.specs.InnerPlaces.{at_places, without}
 use Rattle.trie_core.proofs.Numbers.{ones_bit, double}
 use Rattle.trie_core.proofs.Places.{ones_half, ones_below_suc, ones_split}
-use Rattle.std.proofs.Math.Nat.{add-mul, one-mul}
 
 pub low_bit : (b : ℕ) → (b % 2 ≡ 0) ⊎ (b % 2 ≡ 1)
 low_bit b = elim (eqb (b % 2) 1) as (λ t. eqb (b % 2) 1 ≡ t → (b % 2 ≡ 0) ⊎ (b % 2 ≡ 1)) [

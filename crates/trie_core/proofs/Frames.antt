@@ -1,14 +1,9 @@
 -- What is left of a node: what stands first in it, and what a search leaves of it.
-use Rattle.std.proofs.Common.{◌≡◌, ℕ, ◌+◌, ◌-◌, ◌*◌, ◌/◌, ◌^◌, leb, ◌<◌, ◌≤◌, Bool, true, false, cond, not, ◌&&◌, List, [], ◌∷◌, ◌++◌, length, take, drop, refl, sym, ap, subst, ◌∙◌, arith, inl, inr}
+use Rattle.std.proofs.Common.{◌≡◌, ℕ, ◌+◌, ◌-◌, ◌*◌, ◌/◌, ◌^◌, leb, ◌<◌, ◌≤◌, Bool, true, false, cond, not, ◌&&◌, List, [], ◌∷◌, ◌++◌, length, take, drop, refl, sym, ap, subst, ◌∙◌, inl, inr, Ordering, Equal, nat_cmp, append_assoc, take-take, length-append, arith}
 use Rattle.std.specs.Prelude.{Option, None, MatchOption, is_some, max, nat_lt, ⊤}
-use Rattle.std.specs.declared.cmp.Ordering.{Ordering}
-use Rattle.std.specs.declared.cmp.Ordering.TheVariants.{Equal}
-use Rattle.std.specs.Ordering.{nat_cmp}
 use Rattle.std.proofs.lemmas.Bool.Decides.{nat_tests}
 use Rattle.std.specs.FinMap.{find, entries, get, get-entries, entries_sorted}
 use Rattle.std.specs.FinMap.Entries.{where_key, find-where_key, is_sorted-where_key, same_entries}
-use Rattle.std.proofs.lemmas.List.{append_assoc, take_at, take-take}
-use Rattle.std.proofs.Math.ListN.{length-append}
 use Rattle.ipnet_addr.proofs.Basics.{T-parts}
 use Rattle.trie_core.specs.Bits.{is_from}
 use Rattle.ipnet_blocks.specs.BitStrings.{bits_cmp, begins}
@@ -334,11 +329,6 @@ module _ {X : Type 0} where
 pub child_bits : (child : ℕ) → prefix_bits 5 child 5 ≡ child_string child
 unfolding child_string
 child_bits child = let z : child / 2 ^ (5 - 5) ≡ child = omega arith in ap (digits 5) z
-
-module _ {X : Type 0} where
-  -- all of the node below stands first
-  pub child_rest : {vs us : List (ℕ × X)} {cs ds es : List (ℕ × Seen X)} {trail way : List Bool} {child : ℕ} {m : Seen X} → IsChildNext vs cs ds trail child m → way ≡ trail ++ prefix_bits 5 child 5 → AreParts m us es → part_rest vs cs trail ≡ part_rest us es way ++ part_rest vs ds trail
-  child_rest {vs} {ds = ds} {trail = trail} {child = child} n w a = let b = w ∙ ap (λ s. trail ++ s) (child_bits child) in n.rest ∙ (λ i. under (sym b i) (entries (sym a.map i)) ++ part_rest vs ds trail)
 
 pub value_key : {key : List Bool} (trail : List Bool) (place number : ℕ) {len : ℕ} → key ≡ trail ++ prefix_bits 5 number len → len ≡ length (place_string place) → prefix_bits 5 number (length (place_string place)) ≡ place_string place → key ≡ trail ++ place_string place
 value_key trail place number e l b = e ∙ ap (λ n. trail ++ prefix_bits 5 number n) l ∙ ap (λ s. trail ++ s) b

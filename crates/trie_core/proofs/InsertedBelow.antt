@@ -1,8 +1,5 @@
 -- A value that is stored in a child, or in a new one, is stored in the node.
-use Rattle.std.proofs.Common.{◌≡◌, ℕ, ◌+◌, ◌/◌, ◌^◌, ◌<◌, ◌≤◌, ◌∙◌, Bool, false, List, length, drop, get_or, set, refl, sym, ap, arith}
-use Rattle.std.specs.Prelude.{Option, Some, None, nat_lt, count_ones, IsTrue, ◌↔◌}
-use Rattle.std.specs.Option.{IsSome}
-use Rattle.std.specs.Ordering.{nat_cmp}
+use Rattle.std.proofs.Common.{◌≡◌, ℕ, ◌+◌, ◌/◌, ◌^◌, ◌<◌, ◌≤◌, ◌∙◌, Bool, false, List, length, drop, get_or, set, refl, sym, ap, Option, Some, None, nat_lt, count_ones, IsTrue, ◌↔◌, IsSome, nat_cmp, arith}
 use Rattle.std.specs.FinMap.{get, insert, put, find, empty}
 use Rattle.std.proofs.lemmas.Bool.Decides.{nat_tests}
 use Rattle.trie_core.specs.InnerPlaces.{child_of, at_places, IsUnset}

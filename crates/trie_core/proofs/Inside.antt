@@ -1,9 +1,7 @@
 -- A map without the keys inside a prefix, and what a change of a child makes of it.
-use Rattle.std.proofs.Common.{◌≡◌, ℕ, ◌+◌, ◌<◌, ◌≤◌, Bool, true, false, cond, not, ◌||◌, List, [], ◌∷◌, ◌++◌, length, take, drop, get_or, set, sym, ap, subst, ◌∙◌, arith}
-use Rattle.std.specs.Prelude.{Option, Some, None}
+use Rattle.std.proofs.Common.{◌≡◌, ℕ, ◌+◌, ◌<◌, ◌≤◌, Bool, true, false, cond, not, ◌||◌, List, [], ◌∷◌, ◌++◌, length, take, drop, get_or, set, sym, ap, subst, ◌∙◌, Option, Some, None, length-drop, arith}
 use Rattle.std.specs.FinMap.{get, len, empty, find, get-empty, get-remove, get-retain_keys, same_map}
 use Rattle.std.specs.FinMap as map
-use Rattle.std.proofs.Math.ListN.{length-drop}
 use Rattle.std.proofs.lemmas.List.{nil_from_length, take-take}
 use Rattle.std.proofs.lemmas.Bool.{false_from_ne_true}
 use Rattle.ipnet_blocks.specs.BitStrings.{bits_cmp, begins}

@@ -1,10 +1,5 @@
 -- A write at a key that is there leaves the nodes that the map needs.
-use Rattle.std.proofs.Common.{◌≡◌, ◌+◌, Bool, cond, List, [], ◌∷◌, ◌++◌, refl, sym, ap, subst, ◌∙◌}
-use Rattle.std.specs.Prelude.{T, Some}
-use Rattle.std.specs.Option.{IsSome}
-use Rattle.std.specs.declared.cmp.Ordering.{Ordering}
-use Rattle.std.specs.declared.cmp.Ordering.TheVariants.{Less, Equal, Greater}
-use Rattle.std.specs.Ordering.{is_eq}
+use Rattle.std.proofs.Common.{◌≡◌, ◌+◌, Bool, cond, List, [], ◌∷◌, ◌++◌, refl, sym, ap, subst, ◌∙◌, T, Some, IsSome, Ordering, Less, Equal, Greater, is_eq}
 use Rattle.std.specs.FinMap.{find, get, insert, put, entries, is_sorted, entries_sorted, get-entries, from_entries, len, entries-insert}
 use Rattle.std.specs.FinMap.Entries.{by_order}
 use Rattle.ipnet_addr.proofs.Basics.{none_some}

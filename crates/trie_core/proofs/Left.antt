@@ -1,11 +1,8 @@
 -- The spare nodes that are left as keys go below a node, and the nodes on their way that lead nowhere.
-use Rattle.std.proofs.Common.{◌≡◌, ◌%◌, ◌<◌, ◌≤◌, Bool, true, false, cond, not, List, [], ◌∷◌, ◌++◌, ℕ, zero, suc, ◌-◌, ◌^◌, length, take, drop, get_or, set, refl, sym, ap, subst, ◌∙◌, arith, inl, inr}
-use Rattle.std.specs.Prelude.{Option, Some, None, is_some, ◌↔◌}
+use Rattle.std.proofs.Common.{◌≡◌, ◌%◌, ◌<◌, ◌≤◌, Bool, true, false, cond, not, List, [], ◌∷◌, ◌++◌, ℕ, zero, suc, ◌-◌, ◌^◌, length, take, drop, get_or, set, refl, sym, ap, subst, ◌∙◌, inl, inr, Option, Some, None, is_some, ◌↔◌, append_assoc, append-nil, length-append, arith}
 use Rattle.std.specs.List.{remove as remove_at}
 use Rattle.std.specs.FinMap.{get, len, empty, find, remove, entries, get-empty, get-entries, get-remove, len-empty, len-entries, empty_of_len, same_map}
-use Rattle.std.proofs.lemmas.List.{append_assoc, append-nil}
 use Rattle.std.proofs.Math.Seq.{take-length}
-use Rattle.std.proofs.Math.ListN.{length-append}
 use Rattle.std.proofs.lemmas.Bool.{both_ways, cases_lt}
 use Rattle.ipnet_blocks.specs.BitStrings.{bits_cmp, begins}
 use Rattle.trie_core.specs.InnerPlaces.{child_of, child_list, IsUnset}

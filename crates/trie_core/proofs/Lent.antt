@@ -1,8 +1,5 @@
 -- What a node becomes as what it lends is written.
-use Rattle.std.proofs.Common.{◌≡◌, ◌<◌, ◌≤◌, ◌+◌, ◌∙◌, ℕ, List, Bool, length, take, drop, get_or, set, zero, suc, cond, [], ◌∷◌, refl, sym, ap, arith}
-use Rattle.std.specs.Prelude.{Some}
-use Rattle.std.specs.Option.{IsSome}
-use Rattle.std.specs.Ordering.{nat_cmp}
+use Rattle.std.proofs.Common.{◌≡◌, ◌<◌, ◌≤◌, ◌+◌, ◌∙◌, ℕ, List, Bool, length, take, drop, get_or, set, zero, suc, cond, [], ◌∷◌, refl, sym, ap, Some, IsSome, nat_cmp, arith}
 use Rattle.std.specs.FinMap.{find, get, insert, remove, len, len-insert}
 use Rattle.ipnet_addr.proofs.Basics.{none_some}
 use Rattle.ipnet_blocks.specs.BitStrings.{bits_cmp}

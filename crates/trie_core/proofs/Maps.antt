@@ -1,17 +1,13 @@
 -- What a node's map has at a bit string, and how it changes.
-use Rattle.std.proofs.Common.{◌≡◌, ◌<◌, ◌≤◌, Bool, true, false, cond, List, [], ◌∷◌, ◌++◌, length, take, drop, refl, sym, ap, ◌∙◌, arith, subst, inl, inr}
-use Rattle.std.specs.Prelude.{T, Option, Some, None}
-use Rattle.std.specs.Ordering.{is_eq}
+use Rattle.std.proofs.Common.{◌≡◌, ◌<◌, ◌≤◌, Bool, true, false, cond, List, [], ◌∷◌, ◌++◌, length, take, drop, refl, sym, ap, ◌∙◌, subst, inl, inr, T, Option, Some, None, is_eq, length-append, drop_at, take_at, arith}
 use Rattle.std.specs.FinMap.{entries, find, get, empty, is_sorted, get-entries, get-empty, get-from_entries, get-insert, get-remove, same_map}
 use Rattle.std.specs.FinMap as map
 use Rattle.std.specs.FinMap.Entries.{below_all}
-use Rattle.std.proofs.Math.ListN.{length-append}
 use Rattle.ipnet_addr.proofs.Basics.{T-parts, less_from_T}
 use Rattle.ipnet_blocks.specs.BitStrings.{bits_cmp}
 use Rattle.trie_core.proofs.Strings.{bits_total, bits_same, same, same-Decides, same_false, same-under, other_length, front, not_same, same-refl}
 use Rattle.trie_core.specs.Nodes.{BitMap, Seen}
 use Rattle.trie_core.specs.InnerNodes.{AreShort, AreLong, under, child_entries, child_map, node_map, IsNode}
-use Rattle.std.proofs.lemmas.List.{drop_at, take_at}
 use Rattle.std.proofs.lemmas.Bool.{cases_lt, cases_Bool}
 
 -- ---- strings that begin with the first five bits of q, or not

@@ -1,6 +1,5 @@
 -- The set of spare nodes of a node, by its children.
-use Rattle.std.proofs.Common.{◌≡◌, ℕ, zero, suc, ◌+◌, ◌≤◌, ◌<◌, Bool, cond, List, [], ◌∷◌, length, take, drop, refl, sym, ap, ◌∙◌, arith, ◌++◌}
-use Rattle.std.specs.Prelude.{T, Option, Some, None, is_some}
+use Rattle.std.proofs.Common.{◌≡◌, ℕ, zero, suc, ◌+◌, ◌≤◌, ◌<◌, Bool, cond, List, [], ◌∷◌, length, take, drop, refl, sym, ap, ◌∙◌, ◌++◌, T, Option, Some, None, is_some, take_at, drop_at, length-append, arith}
 use Rattle.std.specs.FinMap.{find, get, remove, len, empty, is_sorted, get-empty, get-insert, get-remove, len-insert, len-empty, same_map}
 use Rattle.std.specs.FinMap.Entries.{below_all}
 use Rattle.ipnet_addr.proofs.Basics.{T-and, T-parts}
@@ -11,8 +10,6 @@ use Rattle.trie_core.specs.InnerNodes.{AreLong, IsNode}
 use Rattle.trie_core.specs.InnerCount.{spare_count, spare_if, spare_of, spares_below, marked_if, marked, marks, spare_set, total, entry_count}
 use Rattle.trie_core.proofs.Count.{things, entries_of_node}
 use Rattle.trie_core.proofs.Maps.{ListChanges, child_get, get_none, get-short, get-long, remove_absent, child_changes}
-use Rattle.std.proofs.lemmas.List.{take_at, drop_at}
-use Rattle.std.proofs.Math.ListN.{length-append}
 
 -- the empty string is not in a set that it was taken from
 root_taken : (b : BitSet) → get (remove b []) [] ≡ None

@@ -1,7 +1,6 @@
 -- Numbers of some bits as strings of their first bits.
-use Rattle.std.proofs.Common.{◌≡◌, ℕ, ◌+◌, ◌-◌, ◌*◌, ◌/◌, ◌^◌, ◌<◌, ◌≤◌, length, take, sym, ap, subst, ◌∙◌, arith}
+use Rattle.std.proofs.Common.{◌≡◌, ℕ, ◌+◌, ◌-◌, ◌*◌, ◌/◌, ◌^◌, ◌<◌, ◌≤◌, length, take, sym, ap, subst, ◌∙◌, mod-eq_of_lt, arith}
 use Rattle.std.proofs.lemmas.Nat.{shl-shr, shr-shr, shr_below, shr_split}
-use Rattle.std.proofs.Math.Nat.{mod-eq_of_lt}
 use Rattle.ipnet_blocks.specs.Blocks.{digits}
 use Rattle.ipnet_blocks.proofs.Strings.{length-digits}
 use Rattle.trie_core.specs.Bits.{number_from}

@@ -1,11 +1,6 @@
 -- The best match of a search so far.
-use Rattle.std.proofs.Common.{◌≡◌, ℕ, zero, suc, ◌+◌, ◌-◌, ◌*◌, ◌<◌, ◌≤◌, List, [], ◌∷◌, Bool, length, drop, get_or, refl, sym, ap, subst, ◌∙◌, arith}
-use Rattle.std.specs.Prelude.{Option, Some, None, MatchOption, is_some, bit_and, count_ones, ◌%◌, ◌^◌}
-use Rattle.std.specs.Option.{IsSome}
-use Rattle.std.specs.Int.{bit_at}
-use Rattle.std.specs.Ordering.{nat_cmp}
+use Rattle.std.proofs.Common.{◌≡◌, ℕ, zero, suc, ◌+◌, ◌-◌, ◌*◌, ◌<◌, ◌≤◌, List, [], ◌∷◌, Bool, length, drop, get_or, refl, sym, ap, subst, ◌∙◌, Option, Some, None, MatchOption, bit_and, count_ones, ◌%◌, ◌^◌, nat_cmp, arith}
 use Rattle.std.specs.FinMap.{find, get}
-use Rattle.std.proofs.lemmas.Nat.Bits.{bit_at-zero}
 use Rattle.trie_core.specs.Nodes.{BitMap, Seen}
 use Rattle.trie_core.specs.Search.{NoBeginning, IsLongest}
 use Rattle.trie_core.specs.InnerPlaces.{place_string, at_places, IsBeginMask, IsLastPlace}
@@ -93,17 +88,6 @@ module _ {X : Type 0} where
     pub place : IsAt m q depth n p
     pub best : IsBestSoFar m.entries q (depth + 5) b
 
-  pub at_root : {m : Seen X} {q : List Bool} (b : Best X) → b.found ≡ 0 → b.left ≡ 0 → IsOnWay m q m q b
-  at_root b e f = record {
-    depth = 0;
-    place = record { within = omega arith; rest = refl; gets = λ r. refl };
-    best = record {
-      none = λ z k h. absurd (omega (arith, h));
-      within = omega (arith, f);
-      some = λ n l. absurd (omega (arith, l.taken, ap (λ a. bit_at a n) e, bit_at-zero n));
-    };
-  }
-
   pub in_branch : {m w e : Seen X} {q p r : List Bool} {b : Best X} (k skip found : ℕ) (after : Best X) → IsOnWay m q w p b → chain k (skipped k skip) e ≡ w → Starts k skip p → r ≡ drop (5 * k) p → (found ≡ 0 → NoneBelow e.entries r 5)
       → ((i : ℕ) → IsLastPlace found i → IsLongestAt e.entries r i) → (found ≡ 0 → after ≡ b) → (0 < found → (after.branch.now ≡ e) × ((after.found ≡ found) × (after.left ≡ length r))) → IsInBranch m q e r after
   in_branch {m} {w} {e} {q} {p} k skip found after o v s f none last same better =
@@ -118,9 +102,6 @@ module _ {X : Type 0} where
   to_child o h e f = record { depth = o.depth + 5; place = at_child o.depth o.place h e f; best = o.best }
 
   -- ---- at the end of the search
-
-  pub held_at : {m : BitMap X} {q : List Bool} {high : ℕ} {b : Best X} → IsBestSoFar m q high b → (n : ℕ) → IsLastPlace b.found n → (n < 31) × IsSome (get b.branch.now.entries (place_string n))
-  held_at f n l = let h = f.some n l in (h.below, ap is_some h.stored)
 
   module _ {S : Type 0} (v : S → X) where
     told : {m : BitMap X} {q : List Bool} {high len : ℕ} {b : Best X} (o : Option (ℕ × S)) → ((o : Option (ℕ × X)) → IsBest (λ x. x) m q high o → MatchOption o (NoBeginning m q) (λ r. IsLongest m q r.0 r.1)) → IsBestSoFar m q high b → len ≡ length q

@@ -1,12 +1,7 @@
 -- The entries of a node, one after another.
-use Rattle.std.proofs.Common.{◌≡◌, ◌<◌, ◌≤◌, Bool, true, false, cond, List, [], ◌∷◌, ◌++◌, length, take, drop, refl, sym, ap, subst, ◌∙◌, arith, inl, inr}
-use Rattle.std.specs.Prelude.{T, Option, Some, None, is_some}
-use Rattle.std.specs.declared.cmp.Ordering.{Ordering}
-use Rattle.std.specs.declared.cmp.Ordering.TheVariants.{Less}
-use Rattle.std.specs.Ordering.{is_lt}
+use Rattle.std.proofs.Common.{◌≡◌, ◌<◌, ◌≤◌, Bool, true, false, cond, List, [], ◌∷◌, ◌++◌, length, take, drop, refl, sym, ap, subst, ◌∙◌, inl, inr, T, Option, Some, None, is_some, Ordering, Less, is_lt, length-append, length-take, append-nil, take-append-drop, take_all, arith}
 use Rattle.std.specs.FinMap.{entries, find, get, is_sorted, entries_sorted, get-entries, empty}
 use Rattle.std.specs.FinMap.Entries.{below_all, same_entries}
-use Rattle.std.proofs.Math.ListN.{length-append, length-take}
 use Rattle.ipnet_addr.proofs.Basics.{T-and, T-parts, less_from_T}
 use Rattle.ipnet_blocks.specs.BitStrings.{bits_cmp}
 use Rattle.trie_core.specs.InnerWalks.{first_value}
@@ -14,7 +9,6 @@ use Rattle.trie_core.specs.Nodes.{BitMap, Seen}
 use Rattle.trie_core.specs.InnerNodes.{under, node_map, IsNode}
 use Rattle.trie_core.proofs.Strings.{bits_total, bits_same, same, same-refl, same-Decides, other_length, bits_cmp-under}
 use Rattle.trie_core.proofs.Maps.{tail_rises, or_else, find-append_all, find-apart, find-child, child_get, get-short, get-long, get_none, node_map-none}
-use Rattle.std.proofs.lemmas.List.{append-nil, take-append-drop, take_all}
 use Rattle.std.proofs.lemmas.Bool.{cases_lt, cases_Bool}
 
 -- ---- the order of strings

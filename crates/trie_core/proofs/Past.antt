@@ -1,8 +1,6 @@
 -- What is left of a word past its first bits, and whether it begins with others.
-use Rattle.std.proofs.Common.{◌≡◌, ℕ, ◌+◌, ◌-◌, ◌*◌, ◌/◌, ◌%◌, ◌^◌, ◌<◌, ◌≤◌, Bool, List, take, drop, sym, ap, subst, ◌∙◌, arith}
-use Rattle.std.specs.Prelude.{◌↔◌}
+use Rattle.std.proofs.Common.{◌≡◌, ℕ, ◌+◌, ◌-◌, ◌*◌, ◌/◌, ◌%◌, ◌^◌, ◌<◌, ◌≤◌, Bool, List, take, drop, sym, ap, subst, ◌∙◌, ◌↔◌, mul_assoc, arith}
 use Rattle.std.proofs.lemmas.Nat.{pow_pos, pow-add, shl-shr, shr-shr, shr_below, mod_below}
-use Rattle.std.proofs.Math.Nat.{mul_assoc}
 use Rattle.ipnet_addr.proofs.Shifts.{mod_up}
 use Rattle.ipnet_blocks.specs.Blocks.{digits}
 use Rattle.ipnet_blocks.proofs.Strings.{digits_apart}

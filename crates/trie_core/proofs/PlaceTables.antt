@@ -1,10 +1,7 @@
 -- The tables of places, each item tested against its rule.
-use Rattle.std.proofs.Common.{◌≡◌, ℕ, zero, suc, ◌+◌, ◌-◌, ◌/◌, ◌%◌, ◌^◌, leb, subst, ◌<◌, ◌≤◌, Bool, true, false, cond, not, ◌&&◌, List, [], ◌∷◌, length, take, get_or, refl, sym, ap, ◌∙◌, arith}
-use Rattle.std.specs.Prelude.{T, eqb, nat_lt, count_ones}
-use Rattle.std.specs.Ordering.{is_lt}
+use Rattle.std.proofs.Common.{◌≡◌, ℕ, zero, suc, ◌+◌, ◌-◌, ◌/◌, ◌%◌, ◌^◌, leb, subst, ◌<◌, ◌≤◌, Bool, true, false, cond, not, ◌&&◌, List, [], ◌∷◌, length, take, get_or, refl, sym, ap, ◌∙◌, T, eqb, nat_lt, count_ones, is_lt, length-take, take-take, arith}
 use Rattle.std.specs.Int.{bit_at}
 use Rattle.std.proofs.lemmas.Bool.Decides.{nat_tests}
-use Rattle.std.proofs.Math.ListN.{length-take}
 use Rattle.std.proofs.lemmas.Bool.{eqb-true, and_right}
 use Rattle.ipnet_addr.proofs.Basics.{T-true, T-parts}
 use Rattle.trie_core.specs.Bits.{number_from, is_from}
@@ -12,7 +9,6 @@ use Rattle.ipnet_blocks.specs.BitStrings.{bits_cmp, begins}
 use Rattle.trie_core.specs.InnerPlaces.{place_from, place_of, child_of, place_string, IsBeginMask}
 use Rattle.trie_core.specs.InnerWalks.{is_past}
 use Rattle.trie_core.proofs.Numbers.{place_strings, place_from_number, number-take}
-use Rattle.std.proofs.lemmas.List.{take-take}
 
 -- a test of all strings of fewer than k bits
 abbrev pub every : ℕ → (List Bool → Bool) → Bool

@@ -1,7 +1,5 @@
 -- What stands at a place of a bitmap.
-use Rattle.std.proofs.Common.{◌≡◌, ℕ, zero, suc, ◌+◌, ◌*◌, ◌/◌, ◌%◌, ◌^◌, ◌<◌, true, false, cond, List, [], ◌∷◌, length, get_or, refl, sym, ap, ◌∙◌, arith}
-use Rattle.std.specs.Prelude.{Some, None, eqb, count_ones}
-use Rattle.std.specs.Ordering.{nat_cmp}
+use Rattle.std.proofs.Common.{◌≡◌, ℕ, zero, suc, ◌+◌, ◌*◌, ◌/◌, ◌%◌, ◌^◌, ◌<◌, true, false, cond, List, [], ◌∷◌, length, get_or, refl, sym, ap, ◌∙◌, Some, None, eqb, count_ones, nat_cmp, arith}
 use Rattle.std.specs.FinMap.{find}
 use Rattle.std.proofs.lemmas.Nat.{mod-pow-add, shr-shr, ones_cat, shr_split, pow_pos, mod_below}
 use Rattle.std.proofs.lemmas.Bool.Decides.{nat_tests}

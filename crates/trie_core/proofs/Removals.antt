@@ -1,6 +1,5 @@
 -- What a change of a child takes out of the node.
-use Rattle.std.proofs.Common.{◌≡◌, ℕ, ◌+◌, ◌-◌, ◌^◌, ◌<◌, ◌≤◌, ◌∙◌, Bool, true, false, List, [], ◌∷◌, ◌++◌, length, drop, get_or, set, sym, ap, arith}
-use Rattle.std.specs.List.{remove}
+use Rattle.std.proofs.Common.{◌≡◌, ℕ, ◌+◌, ◌-◌, ◌^◌, ◌<◌, ◌≤◌, ◌∙◌, Bool, true, false, List, [], ◌∷◌, ◌++◌, length, drop, get_or, set, sym, ap, remove, arith}
 use Rattle.std.specs.FinMap.{len, empty, len-empty}
 use Rattle.std.specs.FinMap as map
 use Rattle.trie_core.specs.InnerPlaces.{child_of, IsUnset}

@@ -1,9 +1,7 @@
 -- What becomes of a node with skipped levels, as a key goes.
-use Rattle.std.proofs.Common.{◌≡◌, ℕ, zero, suc, ◌+◌, ◌-◌, ◌*◌, ◌^◌, ◌<◌, ◌≤◌, Bool, true, false, List, [], ◌∷◌, length, take, drop, refl, sym, ap, subst, ◌∙◌, arith, inl, inr}
-use Rattle.std.specs.Prelude.{Option, None, IsTrue, ◌↔◌}
+use Rattle.std.proofs.Common.{◌≡◌, ℕ, zero, suc, ◌+◌, ◌-◌, ◌*◌, ◌^◌, ◌<◌, ◌≤◌, Bool, true, false, List, [], ◌∷◌, length, take, drop, refl, sym, ap, subst, ◌∙◌, inl, inr, Option, None, IsTrue, ◌↔◌, length-drop, arith}
 use Rattle.std.specs.FinMap.{empty, empty_of_len, len, len-empty}
 use Rattle.ipnet_blocks.specs.BitStrings.{bits_cmp}
-use Rattle.std.proofs.lemmas.List.{length-drop}
 use Rattle.std.proofs.lemmas.Bool.{cases_lt, cases_order}
 use Rattle.trie_core.specs.InnerPlaces.{child_of}
 use Rattle.trie_core.specs.Nodes.{Seen}

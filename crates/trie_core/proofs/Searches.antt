@@ -1,14 +1,10 @@
 -- Searches along a string: by masks within a node, and from node to node.
-use Rattle.std.proofs.Common.{◌≡◌, ℕ, zero, suc, ◌+◌, ◌-◌, ◌*◌, ◌/◌, ◌%◌, ◌^◌, ◌<◌, ◌≤◌, Bool, true, cond, List, [], ◌∷◌, ◌++◌, length, take, drop, get_or, sym, ap, subst, ◌∙◌, arith, inl, inr}
-use Rattle.std.specs.Prelude.{Option, Some, None, MatchOption, bit_and, count_ones}
+use Rattle.std.proofs.Common.{◌≡◌, ℕ, zero, suc, ◌+◌, ◌-◌, ◌*◌, ◌/◌, ◌%◌, ◌^◌, ◌<◌, ◌≤◌, Bool, true, cond, List, [], ◌∷◌, ◌++◌, length, take, drop, get_or, sym, ap, subst, ◌∙◌, inl, inr, Option, Some, None, MatchOption, bit_and, count_ones, nat_cmp, take-append-drop, drop-drop, append_assoc, length-take, length-drop, take-add, arith}
 use Rattle.std.specs.Int.{bit_at, w32, leading_zeros}
-use Rattle.std.specs.Ordering.{nat_cmp}
 use Rattle.std.specs.FinMap.{find, get}
-use Rattle.std.proofs.lemmas.List.{take-append-drop, drop-drop, append_assoc}
 use Rattle.std.proofs.lemmas.Nat.{leading_top}
 use Rattle.std.proofs.lemmas.Nat.Bits.{bit_at_and, bit_at-lt, bit_at_above, bit_at-zero}
 use Rattle.std.proofs.Math.Nat.{div-eq_of_lt-le}
-use Rattle.std.proofs.Math.ListN.{length-take, length-drop}
 use Rattle.trie_core.specs.InnerPlaces.{place_from, place_of, place_string, IsBeginMask, at_places, IsLastPlace, IsFirstPlace}
 use Rattle.trie_core.specs.Nodes.{BitMap, Seen}
 use Rattle.trie_core.specs.Count.{node_visits}
@@ -18,7 +14,6 @@ use Rattle.trie_core.proofs.Numbers.{place_strings}
 use Rattle.ipnet_blocks.proofs.BitStrings.{begins_take, take_begins}
 use Rattle.trie_core.proofs.Taken.{taken, missing}
 use Rattle.trie_core.proofs.Seen.{IsSeen, value_at}
-use Rattle.std.proofs.Math.Seq.{take-add}
 use Rattle.std.proofs.lemmas.Bool.{cases_lt}
 
 -- ---- the ends of a word
@@ -224,9 +219,6 @@ module _ {X : Type 0} where
   }
 
   -- ---- one string
-
-  pub child_get : {n c : Seen X} {q r : List Bool} → IsChild q n c → r ≡ drop 5 q → get c.entries r ≡ get n.entries q
-  child_get {n} {c} {q} e f = ap (get c.entries) f ∙ sym (e.gets (drop 5 q)) ∙ ap (get n.entries) (take-append-drop 5 q)
 
   pub no_child_get : {n : Seen X} {q : List Bool} → HasNoChild q n → get n.entries q ≡ None
   no_child_get {n} {q} e = ap (get n.entries) (sym (take-append-drop 5 q)) ∙ e.gets (drop 5 q)

@@ -1,7 +1,5 @@
 -- What a node is seen as, from its words and lists, and what a change of them makes of it.
-use Rattle.std.proofs.Common.{◌≡◌, ℕ, zero, suc, ◌+◌, ◌<◌, ◌≤◌, Bool, cond, List, [], ◌∷◌, ◌++◌, length, take, drop, get_or, set, sym, ap, ◌∙◌, arith, inl, inr}
-use Rattle.std.specs.Prelude.{count_ones, max, Some, None, cond, Option, is_some}
-use Rattle.std.specs.Ordering.{nat_cmp}
+use Rattle.std.proofs.Common.{◌≡◌, ℕ, zero, suc, ◌+◌, ◌<◌, ◌≤◌, Bool, cond, List, [], ◌∷◌, ◌++◌, length, take, drop, get_or, set, sym, ap, ◌∙◌, inl, inr, count_ones, max, Some, None, Option, is_some, nat_cmp, arith}
 use Rattle.std.specs.FinMap.{find, get, empty, empty_of_len, len, get-empty, len-remove}
 use Rattle.std.proofs.lemmas.Nat.{zero_from_ones}
 use Rattle.std.proofs.lemmas.List.{nil_from_length, set_split, take_more, take-append-drop, take_all}

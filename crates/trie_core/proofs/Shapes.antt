@@ -1,6 +1,5 @@
 -- A branch whose values and children are in one shape.
-use Rattle.std.proofs.Common.{◌≡◌, ℕ, suc, ◌+◌, ◌-◌, ◌*◌, ◌/◌, ◌%◌, ◌^◌, ◌<◌, List, [], ◌∷◌, length, get_or, refl, sym, ap, subst, ◌∙◌, set, arith}
-use Rattle.std.specs.Prelude.{count_ones}
+use Rattle.std.proofs.Common.{◌≡◌, ℕ, suc, ◌+◌, ◌-◌, ◌*◌, ◌/◌, ◌%◌, ◌^◌, ◌<◌, List, [], ◌∷◌, length, get_or, refl, sym, ap, subst, ◌∙◌, set, count_ones, arith}
 use Rattle.std.proofs.lemmas.Nat.{zero_from_ones, shr-shr}
 use Rattle.std.proofs.lemmas.List.Edits.{length-remove}
 use lib.Arith.{digits_div, digits_mod}

@@ -1,11 +1,7 @@
 -- What a node is seen as, by its skipped levels and its branch.
-use Rattle.std.proofs.Common.{◌≡◌, ℕ, zero, suc, ◌+◌, ◌-◌, ◌*◌, ◌/◌, ◌%◌, ◌^◌, ◌<◌, ◌≤◌, Bool, true, false, List, [], ◌∷◌, ◌++◌, length, take, drop, refl, sym, ap, subst, ◌∙◌, arith, inl, inr, append_assoc, length-append}
-use Rattle.std.specs.Prelude.{Option, Some, None, IsTrue}
-use Rattle.std.specs.Option.{IsSome}
+use Rattle.std.proofs.Common.{◌≡◌, ℕ, zero, suc, ◌+◌, ◌-◌, ◌*◌, ◌/◌, ◌%◌, ◌^◌, ◌<◌, ◌≤◌, Bool, true, false, List, [], ◌∷◌, ◌++◌, length, take, drop, refl, sym, ap, subst, ◌∙◌, inl, inr, append_assoc, length-append, Option, Some, None, IsTrue, IsSome, take-append-drop, length-take-le, length-take, length-drop, take_at, drop_at, take-take, drop-drop, take-add, pow_mono, pow_pos, arith}
 use Rattle.std.specs.FinMap.{get, insert, empty}
 use Rattle.std.proofs.lemmas.Nat.Bits.{bit_at-zero}
-use Rattle.std.proofs.lemmas.List.{take-append-drop, length-take-le, length-take, length-drop, take_at, drop_at, take-take, drop-drop}
-use Rattle.std.proofs.Math.Seq.{take-add}
 use Rattle.std.proofs.lemmas.Bool.{cases_lt}
 use Rattle.ipnet_blocks.proofs.Strings.{length-digits}
 use Rattle.trie_core.specs.Nodes.{Seen}
@@ -21,8 +17,6 @@ use Rattle.trie_core.proofs.Seen.{viewed, seen, new_map, new_set}
 use Rattle.trie_core.proofs.Maps.{get_none}
 use Rattle.trie_core.proofs.Changes.{value_put_map, value_count}
 use Rattle.trie_core.proofs.Ways.{short_off}
-use lib.Pow.{pow_mono}
-use Rattle.std.proofs.lemmas.Nat.{pow_pos}
 use Rattle.trie_core.proofs.InsertedBelow.{exchanged_new}
 use Rattle.trie_core.proofs.Chains.{alone_counted, alone_places, over_slots, over_places, chain_step, chain_exchanged, chain_along, chain_get, chain_none, chain_split}
 use Rattle.trie_core.proofs.Searches.{IsAt, IsBest, none_deeper}

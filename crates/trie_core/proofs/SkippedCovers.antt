@@ -1,10 +1,7 @@
 -- A walk over the prefixes of a path goes over skipped levels at once.
-use Rattle.std.proofs.Common.{◌≡◌, ℕ, zero, suc, ◌+◌, ◌-◌, ◌*◌, ◌≤◌, ◌<◌, Bool, true, cond, List, [], ◌++◌, length, take, drop, sym, ap, ◌∙◌, arith}
-use Rattle.std.specs.Prelude.{Option, None}
+use Rattle.std.proofs.Common.{◌≡◌, ℕ, zero, suc, ◌+◌, ◌-◌, ◌*◌, ◌≤◌, ◌<◌, Bool, true, cond, List, [], ◌++◌, length, take, drop, sym, ap, ◌∙◌, Option, None, append_assoc, append-nil, length-drop, drop-drop, take-add, arith}
 use Rattle.std.specs.FinMap.{entries, get, entries_sorted}
 use Rattle.std.specs.FinMap.Entries.{where_key, is_sorted-where_key, same_entries}
-use Rattle.std.proofs.lemmas.List.{append_assoc, append-nil, length-drop, drop-drop}
-use Rattle.std.proofs.Math.Seq.{take-add}
 use Rattle.ipnet_blocks.specs.BitStrings.{bits_cmp, begins}
 use Rattle.ipnet_blocks.proofs.BitStrings.{begins_take}
 use Rattle.trie_core.specs.InnerPlaces.{child_of, place_string}

@@ -1,6 +1,5 @@
 -- What a node becomes as what it lends is written.
-use Rattle.std.proofs.Common.{◌≡◌, ℕ, zero, suc, ◌*◌, ◌≤◌, ◌∙◌, Bool, List, length, take, drop, refl, sym, ap, subst, inl, inr, arith}
-use Rattle.std.specs.Option.{IsSome}
+use Rattle.std.proofs.Common.{◌≡◌, ℕ, zero, suc, ◌*◌, ◌≤◌, ◌∙◌, Bool, List, length, take, drop, refl, sym, ap, subst, inl, inr, IsSome, arith}
 use Rattle.std.specs.FinMap.{get}
 use Rattle.std.proofs.lemmas.Bool.{cases_lt, cases_Bool}
 use Rattle.ipnet_addr.proofs.Basics.{none_some}

@@ -1,14 +1,10 @@
 -- The places of a bitmap: one that is free, and one that is taken.
-use Rattle.std.proofs.Common.{◌≡◌, ℕ, ◌+◌, ◌-◌, ◌%◌, ◌^◌, ◌<◌, ◌≤◌, List, length, get_or, set, sym, ap, ◌∙◌, arith}
-use Rattle.std.specs.Prelude.{Some, None, count_ones}
-use Rattle.std.specs.List.{insert, remove}
-use Rattle.std.specs.Ordering.{nat_cmp}
+use Rattle.std.proofs.Common.{◌≡◌, ℕ, ◌+◌, ◌-◌, ◌%◌, ◌^◌, ◌<◌, ◌≤◌, List, length, get_or, set, sym, ap, ◌∙◌, Some, None, count_ones, insert, remove, nat_cmp, length-set, arith}
 use Rattle.std.specs.FinMap.{find, put}
 use Rattle.std.proofs.lemmas.List.Edits.{length-insert, length-remove}
 use Rattle.trie_core.specs.InnerPlaces.{at_places, without, IsUnset, IsSlot}
 use Rattle.trie_core.proofs.Places.{at_set, at_unset, ones_below_lt, ones_split}
 use Rattle.trie_core.proofs.Edits.{set_is_put, insert_is_put, remove_is_without, set_fits, ones_set, ones_clear, bit_within}
-use Rattle.std.proofs.lemmas.List.{length-set}
 
 pub ones_below_le : (i n : ℕ) → count_ones (n % 2 ^ i) ≤ count_ones n
 ones_below_le i n = omega (arith, ones_split i n)

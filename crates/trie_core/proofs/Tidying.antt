@@ -1,6 +1,5 @@
 -- Spare nodes taken out of a node, child by child from the lowest number on.
-use Rattle.std.proofs.Common.{◌≡◌, ℕ, zero, suc, ◌+◌, ◌-◌, ◌/◌, ◌%◌, ◌^◌, ◌<◌, ◌≤◌, Bool, List, [], ◌∷◌, length, take, get_or, set, remove, refl, sym, ap, ◌∙◌, arith, drop}
-use Rattle.std.specs.Prelude.{Option, Some, None, count_ones}
+use Rattle.std.proofs.Common.{◌≡◌, ℕ, zero, suc, ◌+◌, ◌-◌, ◌/◌, ◌%◌, ◌^◌, ◌<◌, ◌≤◌, Bool, List, [], ◌∷◌, length, take, get_or, set, remove, refl, sym, ap, ◌∙◌, drop, Option, Some, None, count_ones, arith}
 use Rattle.std.specs.FinMap.{get, find, empty, same_map}
 use Rattle.ipnet_addr.proofs.Basics.{no_ones}
 use Rattle.ipnet_blocks.specs.BitStrings.{bits_cmp}

@@ -1,9 +1,7 @@
 -- A list by its last element.
-use Rattle.std.proofs.Common.{◌≡◌, ◌<◌, ◌-◌, ◌+◌, List, [], ◌∷◌, ◌++◌, length, take, sym, ap, ◌∙◌, arith, slice_index_or, slice_set}
-use Rattle.std.proofs.Math.ListN.{length-take}
+use Rattle.std.proofs.Common.{◌≡◌, ◌<◌, ◌-◌, ◌+◌, List, [], ◌∷◌, ◌++◌, length, take, sym, ap, ◌∙◌, slice_index_or, slice_set, length-take, take_all, arith}
 use Rattle.std.proofs.Math.Seq.{set-append_seam}
 use Rattle.std.proofs.lemmas.Grind.{take_at_read}
-use Rattle.std.proofs.lemmas.List.{take_all}
 
 module _ {X : Type 0} where
   pub by_last : (xs : List X) (x : X) → 0 < length xs → x ≡ slice_index_or xs (length xs - 1) x → xs ≡ take (length xs - 1) xs ++ x ∷ []

@@ -1,7 +1,5 @@
 -- A stack of frames along a way.
-use Rattle.std.proofs.Common.{Option, None, Some, MatchOption, ◌≡◌, ℕ, suc, ◌+◌, ◌-◌, ◌*◌, ◌<◌, ◌≤◌, Bool, List, [], ◌∷◌, ◌++◌, length, take, drop, refl, sym, ap, subst, ◌∙◌, arith}
-use Rattle.std.proofs.lemmas.List.{take_all, append-nil, take_at, drop_at, take-take}
-use Rattle.std.proofs.Math.ListN.{length-append, length-take}
+use Rattle.std.proofs.Common.{Option, None, Some, MatchOption, ◌≡◌, ℕ, suc, ◌+◌, ◌-◌, ◌*◌, ◌<◌, ◌≤◌, Bool, List, [], ◌∷◌, ◌++◌, length, take, drop, refl, sym, ap, subst, ◌∙◌, take_all, append-nil, take_at, drop_at, take-take, length-append, length-take, arith}
 use Rattle.std.specs.FinMap.{entries}
 use Rattle.std.specs.FinMap.Entries.{where_key}
 use Rattle.trie_core.specs.Bits.{is_from}

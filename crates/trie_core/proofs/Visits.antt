@@ -1,11 +1,8 @@
 -- The beginnings of a string at which nodes stand, which a search for it enters.
-use Rattle.std.proofs.Common.{◌≡◌, ℕ, zero, suc, ◌+◌, ◌*◌, ◌/◌, ◌<◌, ◌≤◌, Bool, true, false, cond, ◌&&◌, ◌||◌, List, [], ◌∷◌, ◌++◌, length, take, drop, refl, sym, ap, ◌∙◌, arith}
-use Rattle.std.specs.Prelude.{T, Some, None, is_some}
-use Rattle.std.specs.Ordering.{is_eq}
+use Rattle.std.proofs.Common.{◌≡◌, ℕ, zero, suc, ◌+◌, ◌*◌, ◌/◌, ◌<◌, ◌≤◌, Bool, true, false, cond, ◌&&◌, ◌||◌, List, [], ◌∷◌, ◌++◌, length, take, drop, refl, sym, ap, ◌∙◌, T, Some, None, is_some, is_eq, length-append, length-take, append-nil, take_at, take-take, arith}
 use Rattle.std.specs.FinMap.{entries, find, get, empty, get-empty, get-entries, len, len-entries}
 use Rattle.std.specs.FinMap.Entries.{below_all}
 use Rattle.std.proofs.Math.Bool.{and-false, or-false}
-use Rattle.std.proofs.Math.ListN.{length-append, length-take}
 use Rattle.ipnet_addr.proofs.Basics.{T-parts, less_from_T}
 use Rattle.ipnet_blocks.specs.BitStrings.{bits_cmp}
 use Rattle.trie_core.specs.Nodes.{BitMap, BitSet, Seen}
@@ -17,7 +14,6 @@ use Rattle.trie_core.proofs.Maps.{tail_rises, find-under, find-apart}
 use Rattle.trie_core.proofs.Order.{StartsAfter, found_long, found_get, each_node}
 use Rattle.trie_core.proofs.Count.{has, has-begun, some_cond, some_entry, fives_child, fives_short, begun_by_key, after_child, begun_value, begun_has}
 use Rattle.trie_core.proofs.Marks.{root_if, marked_get, marked-other, marked-root, set-long, set-below}
-use Rattle.std.proofs.lemmas.List.{append-nil, take_at, take-take}
 use Rattle.std.proofs.lemmas.Bool.{false_from_ne_true}
 
 below_none : {Y : Type 0} (b : List Bool) (es : List (List Bool × Y)) → T (below_all bits_cmp b es) → has b es ≡ false

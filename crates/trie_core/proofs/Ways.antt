@@ -1,9 +1,7 @@
 -- The spare nodes of a node, as a key comes or goes below it.
-use Rattle.std.proofs.Common.{◌≡◌, ◌^◌, ◌<◌, ◌≤◌, Bool, cond, not, List, [], ◌∷◌, ℕ, zero, suc, length, take, drop, get_or, set, refl, sym, ap, subst, ◌∙◌, arith, inl, inr}
-use Rattle.std.specs.Prelude.{Option, Some, None}
+use Rattle.std.proofs.Common.{◌≡◌, ◌^◌, ◌<◌, ◌≤◌, Bool, cond, not, List, [], ◌∷◌, ℕ, zero, suc, length, take, drop, get_or, set, refl, sym, ap, subst, ◌∙◌, inl, inr, Option, Some, None, nat_cmp, arith}
 use Rattle.std.specs.FinMap.{get, put, len, empty, find, get-empty, get-retain_keys, same_map}
 use Rattle.std.specs.FinMap as map
-use Rattle.std.specs.Ordering.{nat_cmp}
 use Rattle.ipnet_blocks.specs.BitStrings.{bits_cmp, begins}
 use Rattle.trie_core.specs.InnerPlaces.{child_of, at_places, child_list, IsUnset}
 use Rattle.trie_core.specs.Nodes.{BitSet, Seen}

@@ -13,7 +13,6 @@ pub mod Ways
 pub mod InnerPaths
 pub mod InnerPlaces
 pub mod InnerNodes
-pub mod InnerHeights
 pub mod InnerCount
 pub mod InnerSearch
 pub mod InnerMatches

@@ -1,6 +1,5 @@
 //! Insertion: the way down to the value, and the nodes that it makes and splits.
-ghost use Rattle.std.specs.Prelude.{◌≡◌, ◌+◌, ◌*◌, ◌/◌, ◌<◌, ◌≤◌, ◌^◌, length, Some, None, IsTrue, ◌↔◌, false, ◌-◌, IfNone, IfSome, IfOk, IfErr, OnErr, OnOk, max};
-ghost use Rattle.std.specs.Option.{IsSome};
+ghost use Rattle.std.specs.Prelude.{◌≡◌, ◌+◌, ◌*◌, ◌/◌, ◌<◌, ◌≤◌, ◌^◌, length, Some, None, IsTrue, ◌↔◌, false, ◌-◌, IfNone, IfSome, IfOk, IfErr, OnErr, OnOk, max, IsSome};
 ghost use Rattle.std.specs.FinMap as map;
 ghost use Rattle.trie_core.specs.InnerInsertedBelow.{IsStored, bare};
 ghost use Rattle.trie_core.specs.Inside.{NothingInside};

@@ -1,5 +1,5 @@
 //! The borrowed values or children of a node that a walk still has, each at a place below 32.
-ghost use Rattle.std.specs.Prelude.{◌≡◌, ◌+◌, ◌≤◌, [], ◌∷◌, count_ones, length, not, nat_lt, MatchOption, ⊤};
+ghost use Rattle.std.specs.Prelude.{◌≡◌, ◌≤◌, [], ◌∷◌, count_ones, length, not, nat_lt, MatchOption, ⊤};
 ghost use Rattle.std.specs.Ordering.{nat_cmp};
 ghost use Rattle.std.specs.FinMap.Entries.{where_key};
 ghost use Rattle.shape.specs.Shapes.{items_of};

@@ -1,10 +1,8 @@
 //! A node of the trie: at most five skipped levels of five bits each, and then a branch. A branch covers five levels of bits. It has the
 //! values at strings of fewer than five bits and the children at five bits.
-ghost use Rattle.std.specs.Prelude.{ℕ, ◌≡◌, ◌+◌, ◌*◌, ◌/◌, ◌<◌, ◌≤◌, ◌^◌, length, Some, None, IsTrue, ◌↔◌, MatchOption, false, ◌-◌};
-ghost use Rattle.std.specs.Option.{option_copied};
+ghost use Rattle.std.specs.Prelude.{ℕ, ◌≡◌, ◌+◌, ◌*◌, ◌/◌, ◌<◌, ◌≤◌, ◌^◌, length, Some, None, IsTrue, ◌↔◌, MatchOption, false, ◌-◌, option_copied, IsSome};
 ghost use Rattle.std.specs.FinMap as map;
 ghost use Rattle.trie_core.specs.InnerNodes.{HasSlots};
-ghost use Rattle.std.specs.Option.{IsSome};
 ghost use Rattle.trie_core.specs.InnerPlaces.{place_string, IsLastPlace};
 ghost use Rattle.trie_core.specs.InnerSearch.{IsChild, HasNoChild, NoneBelow, IsLongestAt};
 ghost use Rattle.trie_core.specs.InnerMatches.{IsMatch};

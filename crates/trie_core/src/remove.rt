@@ -1,5 +1,5 @@
 //! Removal of an entry, and the nodes that it removes and joins.
-ghost use Rattle.std.specs.Prelude.{◌≡◌, ◌+◌, ◌*◌, ◌/◌, ◌<◌, ◌≤◌, ◌^◌, length, Some, None, ◌↔◌, ◌-◌, IfOk, IfErr};
+ghost use Rattle.std.specs.Prelude.{◌≡◌, ◌+◌, ◌*◌, ◌<◌, ◌≤◌, ◌^◌, length, Some, None, ◌-◌, IfOk, IfErr};
 ghost use Rattle.std.specs.FinMap as map;
 ghost use Rattle.trie_core.specs.InnerRemovedBelow.{IsRemovedBelow};
 ghost use Rattle.trie_core.specs.InnerChains.{over, chain, skipped};

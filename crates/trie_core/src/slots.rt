@@ -1,6 +1,5 @@
 //! Items at places below 32: the bits of a word mark the taken places, and a list has the items in the order of their places.
-ghost use Rattle.std.specs.Prelude.{ℕ, ◌≡◌, ◌<◌, ◌≤◌, ◌%◌, ◌^◌, None, length, count_ones, IfOk, IfErr, OnErr, OnOk, IsTrue, MatchOption};
-ghost use Rattle.std.specs.Option.{option_copied};
+ghost use Rattle.std.specs.Prelude.{ℕ, ◌≡◌, ◌<◌, ◌≤◌, ◌%◌, ◌^◌, None, length, count_ones, IfOk, IfErr, OnErr, OnOk, IsTrue, MatchOption, option_copied};
 ghost use Rattle.std.specs.Ordering.{nat_cmp};
 ghost use Rattle.std.specs.FinMap.{find, put as put_entry};
 ghost use Rattle.trie_core.specs.InnerPlaces.{at_places, without, IsUnset, IsSlot, IsLastPlace, IsFirstPlace};

@@ -1,5 +1,4 @@
-use Rattle.std.proofs.Common.{ℕ, inl, inr, ⊎_elim, List, length, take, ◌∙◌, ap, arith}
-use Rattle.std.proofs.lemmas.List.{get_or-take, length-take-le}
+use Rattle.std.proofs.Common.{ℕ, inl, inr, ⊎_elim, List, length, take, ◌∙◌, ap, get_or-take, length-take-le, arith}
 use Rattle.hop_index.specs.InnerNodes.{IsPlace}
 use Rattle.hop_index.proofs.Groups.{found_all, told_hop}
 use Rattle.hop_index.proofs.batches.store.Goals as goal

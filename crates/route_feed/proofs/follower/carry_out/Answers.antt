@@ -1,6 +1,6 @@
-use Rattle.std.proofs.Common.{◌<◌, ◌∙◌, ap, cond, length, arith, sym}
+use Rattle.std.proofs.Common.{◌<◌, ◌∙◌, ap, cond, length, sym, OnErr, Result, Ok, Err, arith}
+use Rattle.route_table.proofs.Outcomes.{when_err}
 use Rattle.std.proofs.lemmas.List.{take-map}
-use Rattle.std.specs.Prelude.{OnErr, Result, Ok, Err}
 use Rattle.ipnet.specs.IpNets.{block}
 use Rattle.ipnet_blocks.specs.Blocks.{has_address}
 use Rattle.route_choices.specs.Hops.{number_of}
@@ -20,15 +20,11 @@ loop-change-preserved c = λ x a.
     ∙ ap (λ o. cond (has_address (block it.0) x) (number_of it.1) o) (c.loop-change.invariant x a)
     ∙ one_more (hop_at (routes_of c.args.table.now) x) c.args.changes.now i it x within c.change-item.is
 
-on_err_by : {T E X : Type 0} (r : Result T E) → X → OnErr r X
-on_err_by (Ok t) x = tt
-on_err_by (Err e) x = x
-
 -- the changes before the one that was refused are carried out, and the table has just these
 pub returns-in_err-overwrite-clause-first : goal.returns-in_err-overwrite-clause-first
 returns-in_err-overwrite-clause-first c =
     let i = c.loop-change.change-index in
-    on_err_by c.from_residual.result (record {
+    when_err c.from_residual.result (record {
       carried = i;
       hops = λ x a.
           ap (λ t. hop_at (routes_of t) x) c.in_err-overwrite.ensures.unchanged

@@ -6,14 +6,14 @@ use Rattle.route_feed.proofs.runs.follow_then.Goals as goal
 pub returns-in_err-follower-clause-ends : goal.returns-in_err-follower-clause-ends
 returns-in_err-follower-clause-ends g c =
     let p = err_from_is_err_and c.from_residual.result c.from_residual.ensures.1 in
-    rw (p.1, p.2) (follow_stopped g.R.Read.remaining g.W.Write.contents c.args.reader.now c.follow_all.new.reader c.args.writer.now c.in_err-follower.field-0.0 c.follow_all.new.writer c.in_err-follower.ensures)
+    rw (p.1, p.2) (follow_stopped g.R.Read.remaining g.W.Write.contents c.args.reader.now c.follow_all.new.reader c.args.writer.now c.in_err-follower.field-0.0 c.follow_all.new.writer c.in_err-follower.ensures.reaches)
 
 pub reply-result-requires-clause-counts : goal.reply-result-requires-clause-counts
-reply-result-requires-clause-counts g c = rw (c.in_ok-follower.ensures.1) (omega (arith, c.requires.1))
+reply-result-requires-clause-counts g c = rw (c.in_ok-follower.ensures.reaches.1) (omega (arith, c.requires.1))
 
 pub returns-clause-ends : goal.returns-clause-ends
 returns-clause-ends g c =
-    follow_ended g.R.Read.remaining g.W.Write.contents c.args.reader.now c.follow_all.new.reader c.args.writer.now c.in_ok-follower.follower c.follow_all.new.writer c.reply-result.new.writer c.pieces.result c.reply-result.result c.in_ok-follower.ensures c.pieces.ensures c.reply-result.ensures
+    follow_ended g.R.Read.remaining g.W.Write.contents c.args.reader.now c.follow_all.new.reader c.args.writer.now c.in_ok-follower.follower c.follow_all.new.writer c.reply-result.new.writer c.pieces.result c.reply-result.result c.in_ok-follower.ensures.reaches c.pieces.ensures c.reply-result.ensures
 
 pub returns-clause-known : goal.returns-clause-known
 returns-clause-known g c = follow_known g.R.Read.remaining g.W.Write.contents c.args.reader.now c.follow_all.new.reader c.args.writer.now c.reply-result.new.writer c.reply-result.result (returns-clause-ends g c)

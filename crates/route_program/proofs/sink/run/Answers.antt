@@ -26,16 +26,16 @@ loop-read-preserved g c =
       faults = c.in-Ok.ensures.faults ∙ inv.faults;
     }
 
-pub returns-in_err-take_piece : goal.returns-in_err-take_piece
-returns-in_err-take_piece g c =
+pub returns-in_err-take_piece-clause-runs : goal.returns-in_err-take_piece-clause-runs
+returns-in_err-take_piece-clause-runs g c =
     let p = err_from_is_err_and c.from_residual.result c.from_residual.ensures.1 in
     let inv = c.loop-read.invariant in
     let went = Went-more g.S.Sink.takes g.R.Read.remaining c.args.sink.now c.loop-read.sink c.take_piece.new.sink c.args.reader.now c.loop-read.reader c.read.new.self c.args.writer.now c.loop-read.writer c.take_piece.new.writer
     c.loop-read.cutter c.take_piece.new.cutter (take c.in-Ok.count c.read.new.buf) (Err c.in_err-take_piece.field-0.0) inv.went c.in-Ok.ensures.bytes.0 c.in_err-take_piece.ensures.takes tt in
     rw (p.1, p.2) (record { bytes = went.bytes; read = went.read; ends = inr (went_lines g.S.Sink.takes g.R.Read.remaining _ _ _ _ _ _ _ _ went, c.in-Ok.ensures.faults ∙ inv.faults) })
 
-pub returns-in_default : goal.returns-in_default
-returns-in_default g c =
+pub returns-in_default-clause-runs : goal.returns-in_default-clause-runs
+returns-in_default-clause-runs g c =
     let inv = c.loop-read.invariant in
     record {
       bytes = inv.went.bytes;
@@ -43,8 +43,8 @@ returns-in_default g c =
       ends = inl (went_lines g.S.Sink.takes g.R.Read.remaining _ _ _ _ _ _ _ _ inv.went, refl, inl (omega (arith, c.in_default.ensures.faults, inv.faults, c.requires.reader.1), c.in_default.ensures.failing));
     }
 
-pub returns-then-count-eq0 : goal.returns-then-count-eq0
-returns-then-count-eq0 g c =
+pub returns-then-count-eq0-clause-runs : goal.returns-then-count-eq0-clause-runs
+returns-then-count-eq0-clause-runs g c =
     let inv = c.loop-read.invariant in
     let piece = take c.in-Ok.count c.read.new.buf in
     let went = Went-more g.S.Sink.takes g.R.Read.remaining c.args.sink.now c.loop-read.sink c.take_piece.new.sink c.args.reader.now c.loop-read.reader c.read.new.self c.args.writer.now c.loop-read.writer c.take_piece.new.writer
@@ -57,11 +57,12 @@ returns-then-count-eq0 g c =
         c.rest.ensures ∙ ap rest_in went.kept ∙ new_rest_in went.bytes,
         c.in-Ok.ensures.bytes.1 c.if-count-eq0.true (omega (arith, c.requires.room)),
         c.in-Ok.ensures.faults ∙ inv.faults,
+        c.in-Ok.ensures.failing,
       );
     }
 
-pub returns : goal.returns
-returns g c =
+pub returns-clause-runs : goal.returns-clause-runs
+returns-clause-runs g c =
     let inv = c.loop-read.invariant in
     record {
       bytes = inv.went.bytes;

@@ -1,4 +1,4 @@
-use Rattle.std.proofs.Common.{◌≡◌, ℕ, ◌-◌, true, false, ◌||◌, eqb, nat_lt, arith, List, ◌++◌, length, take, drop, sym, ap, ◌∙◌, append_assoc, take-append-drop, ne_eqb}
+use Rattle.std.proofs.Common.{◌≡◌, ℕ, ◌-◌, true, false, not, ◌&&◌, ◌||◌, eqb, nat_lt, arith, List, ◌++◌, length, take, drop, sym, ap, ◌∙◌, append_assoc, take-append-drop, ne_eqb}
 use Rattle.std.proofs.lemmas.List.{length-take-le, take_rest}
 use Rattle.std.proofs.lemmas.Bool.Decides.{nat_tests}
 use Rattle.route_program.proofs.Written.{Written-trans, has_some}
@@ -23,5 +23,6 @@ loop-left-preserved g c =
         faults = rw took at c.in-Ok.ensures.faults;
         flushes = c.in-Ok.ensures.flushes;
         waits = c.in-Ok.ensures.waiting ∙ ap (λ b. b || c.loop-left.writer.waiting) (some ∙ sym has);
+        fails = c.in-Ok.ensures.failing ∙ ap (λ b. b && nat_lt 0 (length left)) took ∙ ap (λ b. not b && c.loop-left.writer.failing) (sym has);
       }),
     )

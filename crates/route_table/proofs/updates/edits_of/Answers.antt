@@ -1,11 +1,11 @@
 use Rattle.std.proofs.Common.{List, [], refl, sym, subst}
+use Rattle.std.proofs.lemmas.Result.{IfOk-weaker}
 use Rattle.ipnet_addr.specs.Addresses.{width}
 use Rattle.nearest_table.specs.Changed.{MakeNearest}
 use Rattle.nearest_table.proofs.Puts.{made_none}
 use Rattle.route_laws.specs.Networks.{routes_of}
 use Rattle.route_laws.specs.Tables.{Route}
 use Rattle.route_table.specs.InnerLeast.{entries_of}
-use Rattle.route_table.proofs.Outcomes.{if_ok}
 use Rattle.route_table.proofs.Updating.{edits_within, width_is_short}
 use Rattle.route_table.proofs.FewestUpdates.{side_bits}
 use Rattle.route_table.proofs.updates.edits_of.Goals as goal
@@ -24,7 +24,7 @@ nearest-requires g c = record {
 pub returns-in-Some : goal.returns-in-Some
 returns-in-Some g c = record {
   edits = c.nearest.ensures;
-  within = if_ok _ _ c.nearest.result (λ es m. edits_within _ _ _ es.items (side_bits g.P.FamilyNet.family c.args.installed.now c.requires.installed).0 m) c.nearest.ensures;
+  within = IfOk-weaker c.nearest.result _ _ (λ es m. edits_within _ _ _ es.items (side_bits g.P.FamilyNet.family c.args.installed.now c.requires.installed).0 m) c.nearest.ensures;
 }
 
 pub returns-in-None : goal.returns-in-None

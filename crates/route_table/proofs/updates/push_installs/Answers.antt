@@ -1,7 +1,8 @@
 use Rattle.std.proofs.Common.{◌∷◌, [], sym, subst}
+use Rattle.std.proofs.lemmas.List.{nil_from_length}
 use Rattle.ipnet_addr.specs.Addresses.{width}
 use Rattle.route_table.specs.InnerUpdates.{AddsInstalls}
-use Rattle.route_table.proofs.Updating.{installs_join, no_installs, none_left, within_front}
+use Rattle.route_table.proofs.Updating.{installs_join, no_installs, within_front}
 use Rattle.route_table.proofs.updates.push_installs.Goals as goal
 
 pub loop-path-preserved : goal.loop-path-preserved
@@ -18,4 +19,4 @@ pub returns : goal.returns
 returns g c =
     let f = g.P.FamilyNet.family in
     let old = c.loop-path.operations.items in
-    c.loop-path.invariant.1 old (subst (λ es. AddsInstalls f es old old) (sym (none_left c.loop-path.rest.now c.in_default.ensures.cases)) (no_installs f old))
+    c.loop-path.invariant.1 old (subst (λ es. AddsInstalls f es old old) (sym (nil_from_length c.loop-path.rest.now c.in_default.ensures.cases)) (no_installs f old))

@@ -2,7 +2,7 @@ use Rattle.std.proofs.Common.{◌≡◌, true, sym, subst}
 use Rattle.ipnet_blocks.specs.BitStrings.{begins}
 use Rattle.ipnet_blocks.proofs.BitStrings.{take_begins}
 use Rattle.prefix_trie.proofs.Covered.{begins_through}
-use Rattle.route_table.proofs.Updating.{begins_itself}
+use Rattle.prefix_trie.proofs.Within.{begins_itself}
 use Rattle.route_table.proofs.updates.widened.Goals as goal
 
 pub loop-net-init : goal.loop-net-init

@@ -1,6 +1,5 @@
-use Rattle.std.proofs.Common.{ℕ, suc, ◌≡◌, ◌+◌, ◌-◌, ◌*◌, ◌/◌, ◌%◌, ◌^◌, ◌∙◌, arith}
+use Rattle.std.proofs.Common.{ℕ, suc, ◌≡◌, ◌+◌, ◌-◌, ◌*◌, ◌/◌, ◌%◌, ◌^◌, ◌∙◌, insert, arith}
 use Rattle.std.proofs.lemmas.Nat.{mod_below}
-use Rattle.std.specs.List.{insert}
 use Rattle.trie_core.specs.InnerChains.{chain, skipped}
 use Rattle.trie_core.proofs.Skipped.{one_slots, one_view, split_same}
 use Rattle.trie_core.proofs.insert.split.Goals as goal

@@ -1,4 +1,4 @@
-use Rattle.std.proofs.Common.{◌≡◌, ◌+◌, ◌-◌, ◌^◌, ◌∙◌, refl, sym, ap, subst, false, length, length-drop, arith}
+use Rattle.std.proofs.Common.{◌≡◌, ◌+◌, ◌-◌, ◌^◌, ◌∙◌, refl, sym, ap, subst, false, length, length-drop, length-set, arith}
 use Rattle.std.specs.FinMap.{get, remove}
 use Rattle.shape.specs.Shapes.{shape_children}
 use Rattle.trie_core.specs.Ways.{IsPruned}
@@ -9,7 +9,6 @@ use Rattle.trie_core.proofs.Changes.{way, was, set_slots, set_taken, set_count, 
 use Rattle.trie_core.proofs.Left.{left_none, left_set, left_removed}
 use Rattle.trie_core.proofs.InsertedBelow.{not_short}
 use Rattle.std.specs.List.{remove as remove_at}
-use Rattle.std.proofs.lemmas.List.{length-set}
 use Rattle.shape.proofs.With.{children_with, values_with_child}
 use Rattle.trie_core.proofs.Shapes.{written, written_slots, values_as}
 use Rattle.trie_core.proofs.Skipped.{not_true}

@@ -1,8 +1,6 @@
-use Rattle.std.proofs.Common.{◌+◌, ◌-◌, ◌*◌, ◌^◌, ◌<◌, ◌∙◌, length, sym, ap, subst, arith}
+use Rattle.std.proofs.Common.{◌+◌, ◌-◌, ◌*◌, ◌^◌, ◌<◌, ◌∙◌, length, sym, ap, subst, length-set, length-drop, arith}
 use Rattle.std.specs.List.{remove as remove_at}
 use Rattle.std.proofs.lemmas.Bool.Decides.{nat_tests}
-use Rattle.std.proofs.lemmas.List.{length-set}
-use Rattle.std.proofs.Math.ListN.{length-drop}
 use Rattle.shape.specs.Shapes.{shape_children}
 use Rattle.shape.proofs.With.{children_with, values_with_child}
 use Rattle.ipnet_blocks.specs.BitStrings.{begins}

@@ -1,24 +1,17 @@
-use Rattle.std.proofs.Common.{◌≡◌, ℕ, ◌+◌, ◌-◌, ◌*◌, ◌/◌, ◌^◌, ◌<◌, ◌≤◌, ◌∙◌, List, Bool, true, false, refl, sym, ap, subst, length, drop, get_or, arith}
-use Rattle.std.specs.Prelude.{Option, Some, None, IsTrue, ◌↔◌}
+use Rattle.std.proofs.Common.{◌∙◌, refl, sym, ap, subst, length, IsTrue, ◌↔◌, length-drop, arith}
 use Rattle.std.specs.FinMap.{get}
-use Rattle.shape.specs.Shapes.{shape_values, shape_children}
-use Rattle.trie_core.specs.InnerInsertedBelow.{IsInsertedBelow, IsStored, bare}
-use Rattle.trie_core.specs.InnerChains.{chain, skipped, Starts}
+use Rattle.shape.specs.Shapes.{shape_children}
+use Rattle.trie_core.specs.InnerInsertedBelow.{IsStored}
+use Rattle.trie_core.specs.InnerChains.{chain, skipped}
 use Rattle.trie_core.specs.InnerPlaces.{child_of, IsUnset}
 use Rattle.trie_core.specs.InnerSearch.{HasNoChild, IsLeaf}
-use Rattle.trie_core.specs.Prefixes.{prefix_bits}
-use Rattle.trie_core.proofs.Aligned.{path_length}
-use Rattle.trie_core.proofs.Seen.{seen, viewed, is_child, has_no_child}
-use Rattle.trie_core.proofs.Searches.{no_child_get, child_visits}
+use Rattle.trie_core.proofs.Seen.{seen, has_no_child}
 use Rattle.trie_core.proofs.Taken.{missing}
-use Rattle.trie_core.proofs.Visits.{visits_some_node}
-use Rattle.trie_core.specs.Count.{node_visits}
-use Rattle.std.proofs.Math.ListN.{length-drop}
-use Rattle.trie_core.proofs.Changes.{way, was, child_slots}
-use Rattle.trie_core.proofs.InsertedBelow.{not_short, exchanged_below, exchanged_new, leaf_in, leaf_new}
+use Rattle.trie_core.proofs.Changes.{way, was}
+use Rattle.trie_core.proofs.InsertedBelow.{not_short, exchanged_below, leaf_in}
 use Rattle.trie_core.proofs.SkippedLeaves.{skipped_leaf}
-use Rattle.trie_core.proofs.Shapes.{written, values_as}
-use Rattle.trie_core.proofs.Skipped.{skipped_get, skipped_none, skipped_exchanged, made_new, not_true}
+use Rattle.trie_core.proofs.Shapes.{written}
+use Rattle.trie_core.proofs.Skipped.{skipped_get, skipped_none, skipped_exchanged}
 use Rattle.trie_core.proofs.node.+store.Goals as goal
 
 -- ---- in a child of a branch

@@ -1,6 +1,5 @@
-use Rattle.std.proofs.Common.{◌+◌, length, ap, ◌∙◌, arith}
+use Rattle.std.proofs.Common.{◌+◌, length, ap, ◌∙◌, length-set, arith}
 use Rattle.std.specs.List.{remove as remove_at}
-use Rattle.std.proofs.lemmas.List.{length-set}
 use Rattle.shape.specs.Shapes.{shape_children}
 use Rattle.shape.proofs.With.{children_with, values_with_child}
 use Rattle.trie_core.proofs.SkippedRemovals.{skipped_counts, skipped_tidied, skipped_bared, tidy_written, tidy_kept, spare_none}

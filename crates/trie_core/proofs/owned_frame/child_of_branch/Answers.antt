@@ -1,5 +1,4 @@
-use Rattle.std.proofs.Common.{◌∙◌, sym, ap, subst}
-use Rattle.std.specs.Prelude.{Some}
+use Rattle.std.proofs.Common.{◌∙◌, sym, ap, subst, Some}
 use Rattle.shape.specs.Shapes.{shape_children}
 use Rattle.trie_core.specs.InnerPlaces.{child_of, IsUnset}
 use Rattle.trie_core.proofs.Seen.{seen, is_child, has_no_child}

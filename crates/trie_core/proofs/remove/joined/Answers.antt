@@ -1,8 +1,6 @@
-use Rattle.std.proofs.Common.{◌≡◌, ℕ, ◌+◌, ◌-◌, ◌*◌, ◌^◌, ◌<◌, ap, ◌∙◌, arith}
+use Rattle.std.proofs.Common.{◌≡◌, ℕ, ◌+◌, ◌-◌, ◌*◌, ◌^◌, ◌<◌, ap, ◌∙◌, pow-add, pow_mono, arith}
 use Rattle.std.proofs.Math.Facts.{Fits-of_lt}
-use Rattle.std.proofs.lemmas.Nat.{pow-add}
 use lib.Arith.{digits_lt}
-use lib.Pow.{pow_mono}
 use Rattle.trie_core.specs.InnerChains.{chain, skipped}
 use Rattle.trie_core.proofs.Shapes.{joined_same}
 use Rattle.trie_core.proofs.remove.joined.Goals as goal

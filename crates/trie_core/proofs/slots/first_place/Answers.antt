@@ -1,5 +1,4 @@
-use Rattle.std.specs.Int.{w32}
-use Rattle.std.proofs.Common.{arith}
+use Rattle.std.proofs.Common.{w32, arith}
 use Rattle.std.proofs.lemmas.Nat.Bits.{bit_at-trailing_zeros}
 use Rattle.trie_core.proofs.slots.first_place.Goals as goal
 

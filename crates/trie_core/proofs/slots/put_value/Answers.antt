@@ -1,5 +1,4 @@
-use Rattle.std.proofs.Common.{◌∙◌, ap, sym, arith, set}
-use Rattle.std.specs.Prelude.{Some}
+use Rattle.std.proofs.Common.{◌∙◌, ap, sym, set, Some, arith}
 use Rattle.std.proofs.Math.Facts.{Fits-of_lt}
 use Rattle.shape.specs.Shapes.{shape_values}
 use Rattle.shape.proofs.With.{values_with}

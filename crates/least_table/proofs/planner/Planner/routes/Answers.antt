@@ -1,5 +1,4 @@
-use Rattle.std.proofs.Common.{arith, ◌≡◌, [], AllPairs, None, subst, sym}
-use Rattle.std.specs.declared.cmp.Ordering.TheVariants.{Less}
+use Rattle.std.proofs.Common.{◌≡◌, [], AllPairs, None, subst, sym, Less, arith}
 use Rattle.ipnet_blocks.specs.BitStrings.{bits_cmp}
 use Rattle.least_table.specs.Pieces.{piece_hop}
 use Rattle.least_table.specs.InnerSteps.{AreNetworks}

@@ -1,7 +1,5 @@
-use Rattle.std.proofs.Common.{◌≡◌, ◌∙◌, ◌+◌, ◌-◌, ◌^◌, ◌<◌, ap, sym, subst, arith}
-use Rattle.std.specs.Prelude.{Some, None, false, length, MatchOption, option_map}
+use Rattle.std.proofs.Common.{◌≡◌, ◌∙◌, ◌+◌, ◌-◌, ◌^◌, ◌<◌, ap, sym, subst, Some, None, false, length, MatchOption, option_map, pow_pos, arith}
 use Rattle.std.specs.FinMap.{entries, entries_sorted}
-use Rattle.std.proofs.lemmas.Nat.{pow_pos}
 use Rattle.ipnet_blocks.specs.BitStrings.{begins}
 use Rattle.ipnet_addr.proofs.Shifts.{whole}
 use Rattle.trie_core.specs.InnerWalks.{KeysWithin}

@@ -1,5 +1,4 @@
-use Rattle.std.specs.Prelude.{option_map, IfSome, IsTrue}
-use Rattle.std.proofs.Common.{length}
+use Rattle.std.proofs.Common.{length, option_map, IfSome, IsTrue}
 use Rattle.prefix_trie.specs.Covered.{covered_count}
 use Rattle.prefix_trie.proofs.Covered.{IsCounting}
 use Rattle.prefix_trie.proofs.map.PrefixMap.address_count.Given as goal

@@ -1,5 +1,4 @@
-use Rattle.std.proofs.Common.{◌∙◌, ap, true}
-use Rattle.std.specs.Prelude.{◌&&◌}
+use Rattle.std.proofs.Common.{◌∙◌, ap, true, ◌&&◌}
 use Rattle.std.specs.FinMap.{entries}
 use Rattle.std.specs.FinMap.Entries.{where_key}
 use Rattle.trie_core.specs.Bits.{is_from}

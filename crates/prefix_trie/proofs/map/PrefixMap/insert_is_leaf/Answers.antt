@@ -1,8 +1,6 @@
-use Rattle.std.proofs.Common.{◌∙◌, sym, ap, subst, false, true, not, List, Bool, IsTrue, ◌↔◌, arith}
+use Rattle.std.proofs.Common.{◌∙◌, sym, ap, subst, false, true, not, List, Bool, IsTrue, ◌↔◌, is_some, IsSome, arith}
 use Rattle.trie_core.specs.Inside.{NothingInside}
 use Rattle.prefix_trie.specs.Seen.{SeenMap}
-use Rattle.std.specs.Prelude.{is_some}
-use Rattle.std.specs.Option.{IsSome}
 use Rattle.std.specs.FinMap.{get, len}
 use Rattle.prefix_trie.proofs.Entries.{one_more, keys_insert}
 use Rattle.prefix_trie.proofs.Spares.{idle_off, off_stored}

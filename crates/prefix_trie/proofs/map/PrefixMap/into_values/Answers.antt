@@ -1,4 +1,4 @@
-use Rattle.std.proofs.Common.{◌≡◌, ap, ◌∙◌, map}
+use Rattle.std.proofs.Common.{ap, ◌∙◌, map}
 use Rattle.prefix_trie.proofs.map.PrefixMap.into_values.Goals as goal
 
 pub returns : goal.returns

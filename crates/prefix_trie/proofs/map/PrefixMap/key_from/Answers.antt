@@ -1,6 +1,5 @@
-use Rattle.std.proofs.Common.{◌∙◌, sym, subst}
+use Rattle.std.proofs.Common.{◌∙◌, sym, subst, IsSome}
 use Rattle.std.specs.FinMap.{get}
-use Rattle.std.specs.Option.{IsSome}
 use Rattle.trie_core.specs.Bits.{is_from}
 use Rattle.prefix_trie.proofs.Lent.{first_within, first_stored}
 use Rattle.prefix_trie.proofs.map.PrefixMap.key_from.Goals as goal

@@ -1,5 +1,4 @@
-use Rattle.std.proofs.Common.{◌≤◌, length}
-use Rattle.std.specs.Prelude.{IfSome}
+use Rattle.std.proofs.Common.{◌≤◌, length, IfSome}
 use Rattle.prefix_trie.specs.Retain.{AnswersAt}
 use Rattle.prefix_trie.proofs.Asked.{IsAsked, left_count}
 use Rattle.prefix_trie.proofs.map.PrefixMap.take_refused.Given as goal

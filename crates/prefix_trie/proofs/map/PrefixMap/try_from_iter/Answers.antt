@@ -1,5 +1,4 @@
-use Rattle.std.proofs.Common.{[], ◌∷◌, ◌++◌, ◌∙◌, IsTrue, refl, sym, ap}
-use Rattle.std.specs.declared.option.Option.TheVariants.{Some}
+use Rattle.std.proofs.Common.{[], ◌∷◌, ◌++◌, ◌∙◌, IsTrue, refl, sym, ap, Some}
 use Rattle.std.specs.FinMap.{empty, insert}
 use Rattle.std.proofs.iter.Next.{Yields-more}
 use Rattle.std.proofs.lemmas.List.Elements.{All-pop}

@@ -1,6 +1,5 @@
-use Rattle.std.proofs.Common.{◌+◌, ◌∙◌, sym, ap, subst}
+use Rattle.std.proofs.Common.{◌+◌, ◌∙◌, sym, ap, subst, IsSome}
 use Rattle.std.specs.FinMap.{get}
-use Rattle.std.specs.Option.{IsSome}
 use Rattle.trie_core.specs.InnerCount.{spare_count}
 use Rattle.trie_core.proofs.Kept.{nodes_kept}
 use Rattle.prefix_trie.proofs.Entries.{len_kept, keys_kept}

@@ -1,5 +1,4 @@
-use Rattle.std.proofs.Common.{◌≡◌, ◌∙◌, ◌≤◌, ap, sym, subst, take, length, ℕ, Bool, true, arith}
-use Rattle.std.specs.Prelude.{IsTrue, nat_eq, ◌↔◌}
+use Rattle.std.proofs.Common.{◌≡◌, ◌∙◌, ◌≤◌, ap, sym, subst, take, length, ℕ, Bool, true, IsTrue, nat_eq, ◌↔◌, arith}
 use Rattle.std.proofs.lemmas.Bool.Decides.{nat_tests}
 use Rattle.trie_core.specs.Bits.{number_from}
 use Rattle.ipnet_blocks.specs.BitStrings.{begins}

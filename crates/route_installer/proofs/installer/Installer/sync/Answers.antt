@@ -1,6 +1,5 @@
-use Rattle.std.proofs.Common.{◌≡◌, ◌≢◌, true, false, not, length, ap, ◌∙◌, sym, subst}
+use Rattle.std.proofs.Common.{◌≡◌, ◌≢◌, true, false, not, length, ap, ◌∙◌, sym, subst, is_some}
 use Rattle.std.proofs.lemmas.Result.{err_from_is_err_and}
-use Rattle.std.specs.Prelude.{is_some}
 use Rattle.route_laws.specs.LeastTables.{IsLeast, routes_for}
 use Rattle.route_laws.specs.Networks.{routes_of}
 use Rattle.route_laws.specs.Tables.{hop_at}

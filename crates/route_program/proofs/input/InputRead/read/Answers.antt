@@ -1,5 +1,4 @@
-use Rattle.std.proofs.Common.{◌≡◌, ◌-◌, ◌<◌, ◌≤◌, [], ◌++◌, length, take, drop, sym, ap, ap₂, ◌∙◌, arith}
-use Rattle.std.proofs.lemmas.List.{take-append-drop, take-take}
+use Rattle.std.proofs.Common.{◌≡◌, ◌-◌, ◌<◌, ◌≤◌, [], ◌++◌, length, take, drop, sym, ap, ap₂, ◌∙◌, take-append-drop, take-take, arith}
 use Rattle.route_program.proofs.Kept.{kept_back, handed_on, none_left, some_left, nothing_kept, left_after, copied}
 use Rattle.route_program.proofs.input.InputRead.read.Goals as goal
 

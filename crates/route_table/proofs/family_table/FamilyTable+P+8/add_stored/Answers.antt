@@ -1,7 +1,5 @@
-use Rattle.std.proofs.Common.{◌≡◌, ◌∙◌, [], take, sym, ap, subst, arith}
-use Rattle.std.proofs.lemmas.List.{take_all}
+use Rattle.std.proofs.Common.{◌≡◌, ◌∙◌, [], take, sym, ap, subst, take_all, IsSome, arith}
 use Rattle.std.specs.FinMap.{get}
-use Rattle.std.specs.Option.{IsSome}
 use Rattle.ipnet_blocks.specs.Blocks.{bit_string}
 use Rattle.ipnet_blocks.specs.Networks.{block_of}
 use Rattle.route_choices.specs.Choices.{choices_with, is_one_too_many}

@@ -1,6 +1,5 @@
-use Rattle.std.proofs.Common.{◌≡◌, [], sym, ap, ◌∙◌, subst}
+use Rattle.std.proofs.Common.{◌≡◌, [], sym, ap, ◌∙◌, subst, IsSome}
 use Rattle.std.specs.FinMap.{get}
-use Rattle.std.specs.Option.{IsSome}
 use Rattle.ipnet_blocks.specs.Networks.{block_of}
 use Rattle.route_choices.specs.Choices.{choices_without, holds_hop}
 use Rattle.route_choices.specs.Hops.{number_of}
@@ -29,33 +28,20 @@ invariant_of-self g c =
     let some : c.remove-held.new.self ≡ [] → ⊥ = λ none. c.requires.others (ap (λ cs. choices_without cs c.args.hop) was ∙ sym c.remove-held.ensures.choices ∙ none) in
     (written_is_stored b c.requires.block _ c.self.invariant.0 _ key _ _ c.match_mut-choices.ensures.value c.remove-held.ensures.are some, c.self.invariant.1, c.self.invariant.2, c.self.invariant.3)
 
-pub returns-clause-held : goal.returns-clause-held
-returns-clause-held g c =
-    let b = block_of g.P.FamilyNet.family (g.P.FamilyNet.parts c.args.net) in
-    let key = whole c.prefix_len.result _ _ c.prefix_len.ensures.value (g.met.P.FamilyNet.bits_are c.args.net) in
-    let was = sym (ap (λ T. choices_at T b) c.self.view_is) ∙ old_at b c.requires.block _ c.self.invariant.0 _ key _ c.remove-held.new.self c.match_mut-choices.ensures.value in
-    some_if c.remove-held.result c.number.result c.then_some.result c.then_some.ensures ∙ c.remove-held.ensures.held ∙ ap (λ cs. holds_hop cs c.args.hop) (sym was)
-
-pub returns-clause-number : goal.returns-clause-number
-returns-clause-number g c =
+pub returns : goal.returns
+returns g c =
     let b = block_of g.P.FamilyNet.family (g.P.FamilyNet.parts c.args.net) in
     let key = whole c.prefix_len.result _ _ c.prefix_len.ensures.value (g.met.P.FamilyNet.bits_are c.args.net) in
     let was = sym (ap (λ T. choices_at T b) c.self.view_is) ∙ old_at b c.requires.block _ c.self.invariant.0 _ key _ c.remove-held.new.self c.match_mut-choices.ensures.value in
     let some : c.remove-held.new.self ≡ [] → ⊥ = λ none. c.requires.others (ap (λ cs. choices_without cs c.args.hop) was ∙ sym c.remove-held.ensures.choices ∙ none) in
-    if_then_some _ c.remove-held.result c.number.result c.then_some.result c.then_some.ensures
-    (c.number.ensures.number ∙ (λ i. number_of ((c.best-best.ensures i).0))
-    ∙ number_of_choices _ (is_side _ _ c.self.invariant.0).table b c.requires.block c.remove-held.new.self c.remove-held.ensures.are some
-    ∙ ap (λ T. match_number (match_of (routes_of T) b)) (sym (written_side b c.requires.block _ c.self.invariant.0 _ key _ _ c.match_mut-choices.ensures.value c.remove-held.ensures.are some)))
-
-pub returns-clause-networks : goal.returns-clause-networks
-returns-clause-networks g c =
-    let b = block_of g.P.FamilyNet.family (g.P.FamilyNet.parts c.args.net) in
-    let key = whole c.prefix_len.result _ _ c.prefix_len.ensures.value (g.met.P.FamilyNet.bits_are c.args.net) in
-    let was = sym (ap (λ T. choices_at T b) c.self.view_is) ∙ old_at b c.requires.block _ c.self.invariant.0 _ key _ c.remove-held.new.self c.match_mut-choices.ensures.value in
-    let some : c.remove-held.new.self ≡ [] → ⊥ = λ none. c.requires.others (ap (λ cs. choices_without cs c.args.hop) was ∙ sym c.remove-held.ensures.choices ∙ none) in
-    written_side b c.requires.block _ c.self.invariant.0 _ key _ _ c.match_mut-choices.ensures.value c.remove-held.ensures.are some
-    ∙ ap (with_choices _ b) (c.remove-held.ensures.choices ∙ ap (λ cs. choices_without cs c.args.hop) (sym was))
-    ∙ ap (λ T. with_choices T b (choices_without (choices_at c.args.self.now b) c.args.hop)) c.self.view_is
-
-pub returns-clause-side : goal.returns-clause-side
-returns-clause-side g c = is_side _ _ (invariant_of-self g c).0
+    let side = written_side b c.requires.block _ c.self.invariant.0 _ key _ _ c.match_mut-choices.ensures.value c.remove-held.ensures.are some in
+    record {
+      held = some_if c.remove-held.result c.number.result c.then_some.result c.then_some.ensures ∙ c.remove-held.ensures.held ∙ ap (λ cs. holds_hop cs c.args.hop) (sym was);
+      number = if_then_some _ c.remove-held.result c.number.result c.then_some.result c.then_some.ensures
+          (c.number.ensures.number ∙ (λ i. number_of ((c.best-best.ensures i).0))
+          ∙ number_of_choices _ (is_side _ _ c.self.invariant.0).table b c.requires.block c.remove-held.new.self c.remove-held.ensures.are some
+          ∙ ap (λ T. match_number (match_of (routes_of T) b)) (sym side));
+      networks = side ∙ ap (with_choices _ b) (c.remove-held.ensures.choices ∙ ap (λ cs. choices_without cs c.args.hop) (sym was))
+          ∙ ap (λ T. with_choices T b (choices_without (choices_at c.args.self.now b) c.args.hop)) c.self.view_is;
+      side = is_side _ _ (invariant_of-self g c).0;
+    }

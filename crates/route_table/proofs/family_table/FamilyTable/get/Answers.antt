@@ -1,5 +1,4 @@
-use Rattle.std.proofs.Common.{◌∙◌, ap, subst, Some, None}
-use Rattle.std.specs.Option.{option_map}
+use Rattle.std.proofs.Common.{◌∙◌, ap, subst, Some, None, option_map}
 use Rattle.ipnet_blocks.specs.Networks.{block_of}
 use Rattle.trie_core.specs.Search.{NoBeginning}
 use Rattle.prefix_trie.specs.Maps.{IsLongestKey}

@@ -1,5 +1,4 @@
-use Rattle.std.proofs.Common.{◌∙◌, ap, arith}
-use Rattle.std.proofs.lemmas.List.{take_all}
+use Rattle.std.proofs.Common.{◌∙◌, ap, take_all, arith}
 use Rattle.route_choices.specs.Choices.{default_preference}
 use Rattle.route_laws.specs.LeastTables.{routes_for}
 use Rattle.route_laws.specs.Tables.{route_of, with_route}

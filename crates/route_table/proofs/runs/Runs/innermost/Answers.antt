@@ -1,5 +1,4 @@
-use Rattle.std.proofs.Common.{◌∙◌, ap, length, ◌-◌}
-use Rattle.std.specs.List.{slice_get}
+use Rattle.std.proofs.Common.{◌∙◌, ap, length, ◌-◌, slice_get}
 use Rattle.route_table.specs.InnerRouteSpans.{RouteSpan}
 use Rattle.route_table.proofs.RunSteps.{inner_at}
 use Rattle.route_table.proofs.runs.Runs.innermost.Goals as goal

@@ -1,5 +1,4 @@
-use Rattle.std.proofs.Common.{subst, length, ◌+◌, ◌≤◌}
-use Rattle.std.specs.Prelude.{sum_by}
+use Rattle.std.proofs.Common.{subst, length, ◌+◌, ◌≤◌, sum_by}
 use Rattle.ipnet.specs.IpNets.{block}
 use Rattle.ipnet_blocks.specs.Blocks.{Block}
 use Rattle.ipnet_blocks.specs.Maximal.{IsMaximal}

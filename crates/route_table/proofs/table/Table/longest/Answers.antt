@@ -1,8 +1,7 @@
-use Rattle.std.proofs.Common.{◌∙◌, sym, ap}
+use Rattle.std.proofs.Common.{◌∙◌, sym, ap, option_map}
 use Rattle.ipnet_addr.specs.Addresses.{Ipv4, Ipv6}
 use Rattle.ipnet_blocks.specs.Networks.{block_of}
 use Rattle.ipnet.specs.IpNets.{block}
-use Rattle.std.specs.Option.{option_map}
 use Rattle.route_laws.specs.Tables.{match_of, item_of}
 use Rattle.route_laws.specs.Networks.{routes_of}
 use Rattle.route_table.proofs.FamilyTables.{seen_table, match_side}

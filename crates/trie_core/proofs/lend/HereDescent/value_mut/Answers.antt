@@ -1,5 +1,4 @@
-use Rattle.std.proofs.Common.{◌∙◌, refl, subst}
-use Rattle.std.specs.Option.{IsSome}
+use Rattle.std.proofs.Common.{◌∙◌, refl, subst, IsSome}
 use Rattle.trie_core.proofs.Skipped.{skipped_get}
 use Rattle.trie_core.proofs.SkippedLent.{skipped_starts, skipped_lent}
 use Rattle.trie_core.proofs.lend.HereDescent.value_mut.Goals as goal

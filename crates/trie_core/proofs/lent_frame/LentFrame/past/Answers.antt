@@ -1,5 +1,4 @@
-use Rattle.std.proofs.Common.{sym, take, arith}
-use Rattle.std.proofs.Math.ListN.{length-take}
+use Rattle.std.proofs.Common.{sym, take, length-take, arith}
 use Rattle.trie_core.proofs.Numbers.{place_bound}
 use Rattle.trie_core.proofs.Frames.{past_part}
 use Rattle.trie_core.proofs.lent_frame.LentFrame.past.Goals as goal

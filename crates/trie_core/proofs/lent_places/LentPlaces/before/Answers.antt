@@ -1,6 +1,5 @@
-use Rattle.std.proofs.Common.{◌∙◌, ap, sym, nat_lt, length}
+use Rattle.std.proofs.Common.{◌∙◌, ap, sym, nat_lt, length, nat_cmp}
 use Rattle.shape.specs.Shapes.{items_of}
-use Rattle.std.specs.Ordering.{nat_cmp}
 use Rattle.std.specs.FinMap.Entries.{where_key}
 use Rattle.trie_core.specs.InnerPlaces.{placed}
 use Rattle.trie_core.proofs.Splits.{split}

@@ -1,18 +1,14 @@
-use Rattle.std.proofs.Common.{◌≡◌, ℕ, ◌+◌, ◌-◌, ◌*◌, ◌/◌, ◌^◌, ◌<◌, ◌≤◌, ◌∙◌, Bool, true, false, List, [], ◌∷◌, refl, sym, ap, subst, length, drop, get_or, arith}
-use Rattle.std.specs.Prelude.{Option, Some, None, nat_lt, IsTrue, ◌↔◌}
+use Rattle.std.proofs.Common.{◌≡◌, ◌+◌, ◌-◌, ◌*◌, ◌^◌, ◌<◌, ◌≤◌, ◌∙◌, Bool, true, List, [], ◌∷◌, refl, sym, ap, subst, length, drop, get_or, nat_lt, IsTrue, ◌↔◌, length-drop, arith}
 use Rattle.std.proofs.lemmas.Bool.Decides.{nat_tests}
-use Rattle.std.specs.FinMap.{get, empty}
-use Rattle.std.proofs.Math.ListN.{length-drop}
 use Rattle.std.proofs.lemmas.Nat.Bits.{bit_at-zero}
 use Rattle.shape.specs.Shapes.{shape_values, shape_children}
 use Rattle.trie_core.specs.Count.{node_visits}
 use Rattle.trie_core.specs.Nodes.{Seen}
 use Rattle.trie_core.specs.InnerNodes.{HasSlots}
-use Rattle.trie_core.specs.InnerInsertedBelow.{IsInsertedBelow, IsStored, bare}
+use Rattle.trie_core.specs.InnerInsertedBelow.{IsInsertedBelow, bare}
 use Rattle.trie_core.specs.InnerChains.{chain, skipped}
 use Rattle.trie_core.specs.InnerPlaces.{child_of}
 use Rattle.trie_core.specs.InnerSearch.{HasNoChild, IsLeaf}
-use Rattle.trie_core.specs.Prefixes.{prefix_bits}
 use Rattle.trie_core.proofs.Seen.{seen, viewed, is_child, has_no_child}
 use Rattle.trie_core.proofs.Searches.{no_child_get, child_visits}
 use Rattle.trie_core.proofs.Taken.{missing}
@@ -88,9 +84,6 @@ store_below-returns-clause-leaf g t c h =
     c.five-number.ensures.value c.put_child.ensures.items c.rest-rest.ensures f)
 
 -- ---- in a new branch
-
-bare_same : {X : Type 0} (e : Seen X) → e.entries ≡ empty → e.spares ≡ empty → e.levels ≡ 1 → e ≡ bare
-bare_same e f z l = λ i. record { entries = f i; spares = z i; levels = l i }
 
 is_short : {b : Bool} (q : List Bool) → b ≡ nat_lt (length q) 5 → b ≡ true → length q < 5
 is_short q e f = let g : nat_lt (length q) 5 ≡ true = sym e ∙ f in grind (arith, nat_tests)

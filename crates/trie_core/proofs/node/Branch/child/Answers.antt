@@ -1,7 +1,4 @@
-use Rattle.std.proofs.Common.{◌≡◌, ◌∙◌, ap, sym, arith}
-use Rattle.std.specs.Prelude.{Some, None, MatchOption}
-use Rattle.std.specs.Option.{option_copied}
-use Rattle.std.specs.Ordering.{nat_cmp}
+use Rattle.std.proofs.Common.{◌≡◌, ◌∙◌, ap, sym, Some, None, MatchOption, option_copied, nat_cmp, arith}
 use Rattle.std.specs.FinMap.{find}
 use Rattle.shape.specs.Shapes.{shape_children}
 use Rattle.trie_core.specs.InnerPlaces.{child_of, at_places}

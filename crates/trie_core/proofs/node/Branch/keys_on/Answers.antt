@@ -1,5 +1,3 @@
-use Rattle.std.proofs.Common.{◌∙◌, sym, subst}
-use Rattle.trie_core.specs.InnerPlaces.{IsLastPlace}
 use Rattle.trie_core.proofs.Seen.{seen}
 use Rattle.trie_core.proofs.Searches.{none_here}
 use Rattle.trie_core.proofs.Matches.{longest_at}

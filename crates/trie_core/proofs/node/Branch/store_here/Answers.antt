@@ -1,7 +1,5 @@
-use Rattle.std.proofs.Common.{◌≡◌, ◌<◌, ◌∙◌, length, sym, ap, subst, arith}
-use Rattle.std.specs.Prelude.{Some, IsTrue, ◌↔◌}
+use Rattle.std.proofs.Common.{◌≡◌, ◌<◌, ◌∙◌, length, sym, ap, subst, Some, IsTrue, ◌↔◌, nat_cmp, arith}
 use Rattle.trie_core.specs.InnerSearch.{IsLeaf}
-use Rattle.std.specs.Ordering.{nat_cmp}
 use Rattle.std.specs.FinMap.{find, get, insert}
 use Rattle.shape.specs.Shapes.{shape_values, shape_children}
 use Rattle.trie_core.specs.InnerPlaces.{at_places}

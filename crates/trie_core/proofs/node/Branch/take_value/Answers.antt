@@ -1,5 +1,4 @@
-use Rattle.std.proofs.Common.{◌+◌, ◌∙◌, cond, sym, ap, arith}
-use Rattle.std.specs.Ordering.{nat_cmp}
+use Rattle.std.proofs.Common.{◌+◌, ◌∙◌, cond, sym, ap, nat_cmp, arith}
 use Rattle.std.specs.FinMap.{find, get, len}
 use Rattle.shape.specs.Shapes.{shape_values}
 use Rattle.trie_core.specs.InnerNodes.{node_height}

@@ -1,5 +1,4 @@
-use Rattle.std.proofs.Common.{◌∙◌, ap, arith}
-use Rattle.std.specs.Ordering.{nat_cmp}
+use Rattle.std.proofs.Common.{◌∙◌, ap, nat_cmp, arith}
 use Rattle.std.specs.FinMap.{find}
 use Rattle.shape.specs.Shapes.{shape_values}
 use Rattle.trie_core.specs.InnerPlaces.{at_places}

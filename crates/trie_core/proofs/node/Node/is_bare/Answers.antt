@@ -1,6 +1,4 @@
-use Rattle.std.proofs.Common.{◌≡◌, sym, ap, subst, ◌∙◌, arith}
-use Rattle.std.specs.Prelude.{nat_eq}
-use Rattle.std.proofs.lemmas.Bool.{eqb-true}
+use Rattle.std.proofs.Common.{◌≡◌, sym, ap, subst, ◌∙◌, nat_eq, eqb-true, arith}
 use Rattle.trie_core.specs.InnerRemovedBelow.{IsBare, IsFull}
 use Rattle.trie_core.specs.InnerCount.{all_nodes}
 use Rattle.trie_core.specs.InnerChains.{chain, skipped}

@@ -1,5 +1,4 @@
-use Rattle.std.proofs.Common.{length}
-use Rattle.std.specs.Prelude.{◌↔◌}
+use Rattle.std.proofs.Common.{length, ◌↔◌}
 use Rattle.trie_core.specs.InnerSearch.{IsLeaf}
 use Rattle.trie_core.proofs.node.Node.is_leaf.Given as goal
 

@@ -1,6 +1,5 @@
-use Rattle.std.proofs.Common.{◌<◌, ◌≤◌, ◌*◌, length, ap, ◌∙◌, arith}
+use Rattle.std.proofs.Common.{◌<◌, ◌≤◌, ◌*◌, length, ap, ◌∙◌, length-drop, arith}
 use Rattle.std.proofs.lemmas.Bool.Decides.{nat_tests}
-use Rattle.std.proofs.Math.ListN.{length-drop}
 use Rattle.trie_core.proofs.Searches.{child_visits}
 use Rattle.trie_core.proofs.Visits.{visits_short, visits_tidy}
 use Rattle.trie_core.proofs.Skipped.{not_true}

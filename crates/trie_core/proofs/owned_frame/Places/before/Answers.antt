@@ -1,5 +1,4 @@
-use Rattle.std.proofs.Common.{◌∙◌, ap, sym, nat_lt, length}
-use Rattle.std.specs.Ordering.{nat_cmp}
+use Rattle.std.proofs.Common.{◌∙◌, ap, sym, nat_lt, length, nat_cmp}
 use Rattle.std.specs.FinMap.Entries.{where_key}
 use Rattle.trie_core.specs.InnerPlaces.{placed}
 use Rattle.trie_core.specs.InnerHeld.{held}

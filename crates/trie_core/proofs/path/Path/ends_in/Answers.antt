@@ -1,5 +1,4 @@
-use Rattle.std.proofs.Common.{◌-◌, ◌*◌, ◌/◌, ◌^◌, ◌<◌, ◌≤◌, sym, ◌∙◌, arith}
-use Rattle.std.proofs.lemmas.Bool.{eqb-true, eq-eqb}
+use Rattle.std.proofs.Common.{◌-◌, ◌*◌, ◌/◌, ◌^◌, ◌<◌, ◌≤◌, sym, ◌∙◌, eqb-true, eq-eqb, arith}
 use Rattle.trie_core.proofs.Aligned.{path_length}
 use Rattle.trie_core.proofs.Past.{ends}
 use Rattle.trie_core.proofs.path.Path.ends_in.Goals as goal

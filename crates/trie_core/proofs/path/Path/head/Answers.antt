@@ -1,6 +1,5 @@
-use Rattle.std.proofs.Common.{◌*◌, arith}
+use Rattle.std.proofs.Common.{◌*◌, pow_mono, arith}
 use Rattle.std.proofs.Math.Facts.{Fits-of_lt}
-use lib.Pow.{pow_mono}
 use Rattle.trie_core.proofs.Aligned.{path_length}
 use Rattle.trie_core.proofs.Past.{top_bits}
 use Rattle.trie_core.proofs.path.Path.head.Goals as goal

@@ -1,5 +1,4 @@
-use Rattle.std.proofs.Common.{ap}
-use Rattle.std.specs.Prelude.{nat_lt}
+use Rattle.std.proofs.Common.{ap, nat_lt}
 use Rattle.trie_core.proofs.Aligned.{path_length}
 use Rattle.trie_core.proofs.path.Path.is_short.Goals as goal
 

@@ -1,5 +1,4 @@
-use Rattle.std.proofs.Common.{ap, arith}
-use Rattle.std.specs.Prelude.{count_ones}
+use Rattle.std.proofs.Common.{ap, count_ones, arith}
 use Rattle.trie_core.proofs.Aligned.{path_length}
 use Rattle.trie_core.proofs.Numbers.{place_from_number, place_bound}
 use Rattle.trie_core.proofs.path.Path.place.Goals as goal

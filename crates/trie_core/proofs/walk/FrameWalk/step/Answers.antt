@@ -1,5 +1,4 @@
-use Rattle.std.proofs.Common.{◌∙◌, ◌-◌, sym, ap, subst, length, take, arith}
-use Rattle.std.specs.Prelude.{Some}
+use Rattle.std.proofs.Common.{◌∙◌, ◌-◌, sym, ap, subst, length, take, Some, arith}
 use Rattle.trie_core.specs.InnerTrails.{along, IsWalk}
 use Rattle.trie_core.specs.InnerWalks.{walk_rest, walk_weight}
 use Rattle.trie_core.proofs.Trails.{given, last_frame, last_keys, one_more, taken_off, taken_frame, entry_left, below_left, nothing_left}

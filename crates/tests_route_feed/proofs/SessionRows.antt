@@ -7,7 +7,7 @@ use Rattle.route_laws.specs.Tables.{Route}
 use Rattle.route_lines.specs.declared.fib_input.FibInput.TheVariants as N
 use Rattle.route_lines.specs.declared.reply.Closing.TheVariants.{Done}
 use Rattle.route_lines.specs.declared.reply.Reply.TheVariants as R
-use Rattle.route_feed.proofs.Rows.{seven_text, ten, ten_text}
+use Rattle.tests_route_feed.proofs.LineRows.{seven_text, ten, ten_text}
 use Rattle.route_installer.specs.Installing.{Noted, batches_given, installed_bytes}
 
 -- 10.0.0.0/8 7, with the default preference

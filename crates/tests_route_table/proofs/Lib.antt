@@ -1,0 +1,4 @@
+pub mod NearestRows
+pub mod TableRows
+pub mod OperationRows
+pub mod UpdateRows
