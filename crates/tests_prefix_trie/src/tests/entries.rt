@@ -320,16 +320,27 @@ fn no_entry(rt: &impl Abort, map: &mut PrefixMap<Ipv4Net, u32>) {
     is_equal(rt, entry.get_mut().is_none(), true);
 }
 
+/// Stores a value, and writes through the reference that is returned.
+fn lent(rt: &impl Abort, map: &mut PrefixMap<Ipv4Net, u32>) {
+    let ten = net(rt, "10.0.0.0/8");
+    write_stored(rt, map.entry(ten).or_insert(1), 5);
+}
+
+/// Writes through the reference to the stored value.
+fn written(rt: &impl Abort, map: &mut PrefixMap<Ipv4Net, u32>) {
+    let ten = net(rt, "10.0.0.0/8");
+    write(rt, map.entry(ten).get_mut(), 7);
+}
+
 /// Makes the call and checks its result.
 fn calls(rt: &impl Abort, map: &mut PrefixMap<Ipv4Net, u32>, call: &Call) {
-    let ten = net(rt, "10.0.0.0/8");
     match call {
         VacantKey => vacant_key(rt, map),
         Defaulted => defaulted(rt, map),
         VeryKey => very_key(rt, map),
-        Lent => write_stored(rt, map.entry(ten).or_insert(1), 5),
+        Lent => lent(rt, map),
         OrInserted => or_inserted(rt, map),
-        Written => write(rt, map.entry(ten).get_mut(), 7),
+        Written => written(rt, map),
         Occupied => occupied(rt, map),
         Removed => removed(rt, map),
         Stored => stored(rt, map),
