@@ -1,6 +1,7 @@
 //! An index of a table.
-ghost use Rattle.std.specs.Prelude.{◌≡◌, IfOk};
+ghost use Rattle.std.specs.Prelude.{◌≡◌, IfErr, IfOk};
 ghost use Rattle.ipnet_addr.specs.Addresses.{address_of};
+ghost use Rattle.prefix_trie.specs.declared.refused.Refused.TheVariants.{Memory};
 ghost use Rattle.route_laws.specs.Networks.{routes_of};
 ghost use Rattle.route_laws.specs.Tables.{hop_at};
 
@@ -14,7 +15,8 @@ use std::alloc::Global;
 /// # Errors
 /// `Memory` if an allocation for the index fails.
 pub fn looked_up(alloc: Global, table: &RouteTable, addr: IpAddr) -> Result<Option<u32>, Refused>
-    ensures { IfOk result (λ hop. hop ≡ hop_at (routes_of table.now) (address_of addr)) }
+    ensures hop { IfOk result (λ hop. hop ≡ hop_at (routes_of table.now) (address_of addr)) }
+    ensures memory { IfErr result (λ e. e ≡ Memory) }
 {
     let index = HopIndex::from_table(alloc, table)?;
     Ok(index.hop(addr))

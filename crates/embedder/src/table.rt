@@ -1,9 +1,10 @@
 //! A route table.
-ghost use Rattle.std.specs.Prelude.{◌≡◌, [], List, Some, IfOk, OnOk, if◌then◌else◌, length};
+ghost use Rattle.std.specs.Prelude.{◌≡◌, [], List, Some, IfErr, IfOk, OnOk, if◌then◌else◌, length};
 ghost use Rattle.std.specs.Option.{option_map};
 ghost use Rattle.ipnet_addr.specs.Addresses.{Address, IsAddress};
 ghost use Rattle.ipnet.specs.IpNets.{block};
 ghost use Rattle.ipnet_blocks.specs.Blocks.{is_inside};
+ghost use Rattle.prefix_trie.specs.declared.refused.Refused.TheVariants.{Memory};
 ghost use Rattle.route_choices.specs.Choices.{choices_with};
 ghost use Rattle.route_laws.specs.LeastTables.{routes_for};
 ghost use Rattle.route_laws.specs.Nearest.{IsFewestTo};
@@ -61,8 +62,9 @@ pub fn rebuilt(table: &RouteTable, empty: &mut RouteTable) -> Result<(), AddRefu
 /// # Errors
 /// `Memory` if an allocation fails; this contract says nothing of the table then.
 pub fn updated(table: &mut HopTable, changes: &[(IpNet, Hop)]) -> Result<usize, Refused>
-    ensures { IfOk result (λ n. (os : List Operation) × (routes_of table.new ≡ after_all (routes_of table.old) os) × (n ≡ length os)
+    ensures fewest { IfOk result (λ n. (os : List Operation) × (routes_of table.new ≡ after_all (routes_of table.old) os) × (n ≡ length os)
         × IsFewestTo (routes_of table.old) (hop_at (painted_all (routes_of table.old) (routes_for changes.now))) os × IsHitless (routes_of table.old) os) }
+    ensures memory { IfErr result (λ e. e ≡ Memory) }
 {
     updates();
     let operations = table.updates(changes)?;

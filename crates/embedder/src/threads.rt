@@ -32,7 +32,7 @@ pub fn set<P: Prefix + Send>(set: PrefixSet<P>) -> PrefixSet<P>
     sent(set)
 }
 
-/// A table of routes goes.
+/// A route table can be sent.
 pub fn table(table: RouteTable) -> RouteTable
     ensures { result ≡ table }
 {

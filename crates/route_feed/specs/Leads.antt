@@ -36,10 +36,8 @@ module _ {W : Type 0} (contents : W → Option (List ℕ)) where
 
 module _ {R W : Type 0} (remaining : R → Option (List ℕ)) (contents : W → Option (List ℕ)) where
   -- `Ok`: all was read, the whole output was written and flushed, and nothing failed. `Read`: the replies to the complete lines were
-  -- written and flushed, and only the reader failed, in its last call. `Write`: a beginning of the replies to the complete lines was
-  -- written, or of the output if all was read; each reply before its last one was flushed, and only the writer failed, in its last call.
-  -- `Memory`: nothing was done. Never `Line`. Any call of a writer may fail, so each flush comes after the end of its reply and before
-  -- the first byte of the next
+  -- written and flushed, and only the reader failed, in its last call. `Write`: a beginning of these replies was written, or of the output
+  -- if all was read; each reply before the last was flushed, and only the writer failed, in its last call. `Memory`: nothing was done
   abbrev pub LeadEnds : Counted R → Counted R → Counted W → Counted W → Result Unit RunError → Type 0
   LeadEnds from to old new (Ok done) = HasReadAll remaining (λ bytes. (refusals : List Bool) × Outputs contents (output bytes refusals) old new) from to
   LeadEnds from to old new (Err Why.Read) = HasRead remaining (λ bytes. (refusals : List Bool) × Outputs contents (lines_output bytes refusals) old new) from to × ReadFault from to

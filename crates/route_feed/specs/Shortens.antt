@@ -22,8 +22,7 @@ abbrev pub AppendsLeast : List ℕ → Option (List ℕ) → Option (List ℕ) �
 AppendsLeast bytes old new = (routes : List Route) × IsLeastFor bytes routes × Appends old new (add_lines routes)
 
 module _ {R W : Type 0} (remaining : R → Option (List ℕ)) (contents : W → Option (List ℕ)) where
-  -- As `FollowEnds`, but the lines of such a table are written. It may also end with `Memory` after all was read, when each line is a
-  -- reply line
+  -- As `FollowEnds`, but the lines of such a table are written. It may also end with `Memory` once all is read and all are reply lines
   abbrev pub ShortenEnds : Counted R → Counted R → Counted W → Counted W → Result Unit RunError → Type 0
   ShortenEnds from to old new (Ok done) = HasReadAll remaining (λ bytes. AreReplies (lines bytes) × ((routes : List Route) × IsLeastFor bytes routes × Delivered contents old new (add_lines routes))) from to
   ShortenEnds from to old new (Err Why.Read) = HasRead remaining (λ bytes. AreReplies (lines bytes)) from to × ReadFault from to × (new ≡ old)

@@ -60,7 +60,7 @@ pub fn lead_line<W: Write>(
 /// Replies to the line of these bytes; `None` is a line that is too long.
 ///
 /// # Errors
-/// Only `Write`: if `write` or `flush` fails, or if `write` writes nothing. Then only a beginning of the reply was written.
+/// Only `Write`: if `write` or `flush` fails, or if `write` writes nothing. Then a beginning of the reply, or all of it, was written.
 pub(crate) fn answer<W: Write>(
     table: &mut RouteTable,
     text: Option<&[u8]>,
@@ -81,7 +81,7 @@ pub(crate) fn answer<W: Write>(
 /// Replies to the bytes after the last line end, if there are any.
 ///
 /// # Errors
-/// Only `Write`: if `write` or `flush` fails, or if `write` writes nothing. Then only a beginning of the reply was written.
+/// Only `Write`: if `write` or `flush` fails, or if `write` writes nothing. Then a beginning of the reply, or all of it, was written.
 pub(crate) fn answer_rest<W: Write>(rest: Rest, writer: &mut Counted<W>) -> Result<(), RunError>
     requires { CanCount writer.old }
     ensures closes { Closes W.contents (replies_to_rest rest) writer.old writer.new result (reply_to_rest rest) }

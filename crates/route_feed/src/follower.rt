@@ -129,7 +129,6 @@ impl Follower {
     pub fn new(alloc: Global) -> Result<Follower, RunError>
         ensures ok { IsOk result }
         ensures state { IfOk result (λ f. f ≡ record { table = []; pending = []; failed = false }) }
-        ensures memory { IfErr result (λ e. e ≡ RunError.Memory) }
     {
         Ok(Follower {
             table: HopTable::new(alloc)?,

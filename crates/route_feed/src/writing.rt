@@ -17,7 +17,7 @@ use std::io::Write;
 /// Writes a reply, its lines and `ok`, and flushes.
 ///
 /// # Errors
-/// Only `Write`: if `write` or `flush` fails, or if `write` writes nothing. Then only a beginning of the reply was written.
+/// Only `Write`: if `write` or `flush` fails, or if `write` writes nothing. Then a beginning of the reply, or all of it, was written.
 pub(crate) fn reply<W: Write, B: Body>(writer: &mut Counted<W>, mut body: B) -> Result<(), RunError>
     requires counts { CanCount writer.old }
     requires body { B.can_give body }
@@ -34,7 +34,7 @@ pub(crate) fn reply<W: Write, B: Body>(writer: &mut Counted<W>, mut body: B) -> 
 /// Writes the lines that add the routes, and flushes.
 ///
 /// # Errors
-/// Only `Write`: if `write` or `flush` fails, or if `write` writes nothing. Then only a beginning of the lines was written.
+/// Only `Write`: if `write` or `flush` fails, or if `write` writes nothing. Then a beginning of the lines, or all of them, was written.
 pub(crate) fn write_routes<W: Write>(
     writer: &mut Counted<W>,
     routes: LeastRoutes,

@@ -343,10 +343,6 @@ module _ {R W : Type 0} (remaining : R → Option (List ℕ)) (contents : W → 
     pub install_ended : (left : Rest) → Runs (TakesNoteLine contents) remaining a from old (Ok left) b to new → InstallEnds remaining contents from to old new (Ok tt)
     install_ended left x = let all = all_are x.bytes x.read x.ends.0 in (all.0, x.ends.2, x.ends.3, x.ends.4, all.1)
 
--- no memory was found for the start
-pub install_none : {R W : Type 0} (remaining : R → Option (List ℕ)) (contents : W → Option (List ℕ)) (from : Counted R) (old : Counted W) (e : RunError) → e ≡ Why.Memory → InstallEnds remaining contents from from old old (Err e)
-install_none remaining contents from old e is = subst (λ k. InstallEnds remaining contents from from old old (Err k)) (sym is) (inl (refl, refl))
-
 -- where the reader tells its bytes
 pub install_known : {R W : Type 0} (remaining : R → Option (List ℕ)) (contents : W → Option (List ℕ)) (from to : Counted R) (old new : Counted W) (r : Result Unit RunError) → InstallEnds remaining contents from to old new r
     → OnOk r (IfSome (remaining from.device) (λ bytes. AppendsInstalled (lines bytes) (contents old.device) (contents new.device)))

@@ -1,5 +1,5 @@
 //! An installer: keeps an installed table in sync with a leader's reply lines.
-ghost use Rattle.std.specs.Prelude.{◌≡◌, ◌≢◌, ◌<◌, ◌++◌, ◌∷◌, [], All, IfErr, IfOk, OnErr, OnOk, length, map, false, true};
+ghost use Rattle.std.specs.Prelude.{◌≡◌, ◌≢◌, ◌<◌, ◌++◌, ◌∷◌, [], All, IfErr, IfOk, IsOk, OnErr, OnOk, length, map, false, true};
 ghost use Rattle.ipnet.specs.IpNets.{family, parts};
 ghost use Rattle.ipnet_blocks.specs.Networks.{IsTruncated};
 ghost use Rattle.route_choices.specs.Choices.{default_preference};
@@ -121,8 +121,8 @@ impl Installer {
     /// # Errors
     /// None. The `Result` leaves room for an implementation that allocates here.
     pub(crate) fn new(alloc: Global) -> Result<Installer, RunError>
+        ensures ok { IsOk result }
         ensures state { IfOk result (λ i. i ≡ begin) }
-        ensures memory { IfErr result (λ e. e ≡ RunError.Memory) }
     {
         Ok(Installer {
             alloc,

@@ -53,7 +53,6 @@ ReadFault from to = FailedLast from to ⊎ ((from.reads + 2 ^ 62 ≤ to.reads) �
 abbrev pub Flushed : {W : Type 0} → ℕ → Counted W → Counted W → Type 0
 Flushed times old new = (new.flushes ≡ more_by times old.flushes) × (new.waiting ≡ (times == 0 && old.waiting)) × (new.failing ≡ (times == 0 && old.failing))
 
--- earlier unflushed bytes and this text were flushed, once, nothing is unflushed, and the last call was no fault; if there were no bytes,
--- no flush counts
+-- unflushed bytes and this text, if there are any, were flushed once; nothing is unflushed, and the last call was no fault
 abbrev pub FlushedAll : {W : Type 0} → List ℕ → Counted W → Counted W → Type 0
 FlushedAll text old new = (new.flushes ≡ if is_some (slice_get text 0) || old.waiting then one_more old.flushes else old.flushes) × (new.waiting ≡ false) × (new.failing ≡ false)

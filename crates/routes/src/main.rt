@@ -98,7 +98,7 @@ fn mode_of<A: Allocator>(mut args: Args<A>) -> Result<Mode, Fault>
     }
 }
 
-// Leads, follows or compresses. The program exits next, so the system frees the memory of the table.
+// Leads, follows or compresses. The program exits next, so a leader or a follower leaves its memory to the system.
 fn run_as<R: Read, W: Write>(
     mode: Mode,
     alloc: Global,

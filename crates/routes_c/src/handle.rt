@@ -1,5 +1,5 @@
 //! Handles, and calls on their content.
-ghost use Rattle.std.specs.Prelude.{◌≡◌, None, Some, IfNone, IfSome, MatchOption, true, false};
+ghost use Rattle.std.specs.Prelude.{◌≡◌, None, Some, MatchOption, true, false};
 ghost use Rattle.std.specs.Fn.{FnOnceReturnsAtMut};
 ghost use Rattle.routes_c.specs.Handles.{GoesOn, IsClosed, IsHandle, content_of, of_kind};
 ghost use Rattle.routes_c.specs.Runs.{ReturnsAtBoth};
@@ -17,19 +17,16 @@ pub struct Handle {
 }
 
 impl Handle {
-    /// Takes the content out of the handle, and leaves it closed.
-    pub(crate) fn take(&mut self, alloc: Global) -> Option<Box<Content>>
+    /// Closes the handle, if it is open, and frees its content.
+    pub(crate) fn close(&mut self, alloc: Global)
         requires { IsHandle self.old }
         ensures handle { IsHandle self.new }
         ensures closed { IsClosed self.new }
-        ensures none { IfNone result (IsClosed self.old) }
-        ensures some { IfSome result (λ b. content_of self.old ≡ Some b.value) }
     {
-        if !self.is_open {
-            return None;
+        if self.is_open {
+            self.is_open = false;
+            drop(replace(&mut self.held, BoxedContent::none(alloc)).into_box());
         }
-        self.is_open = false;
-        Some(replace(&mut self.held, BoxedContent::none(alloc)).into_box())
     }
 
     /// Puts the content back into the handle.

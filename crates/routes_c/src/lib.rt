@@ -1,6 +1,6 @@
 //! Route tables for C: a table, an index or a follower behind a handle that the caller owns. Its calls take numbers and buffers.
 //!
-//! A handle that is open as another kind counts as closed, and keeps its content.
+//! To all calls but those that open or close, a handle that is open as another kind is closed. They leave its content as it is.
 //!
 //! include/routes.h has the C declarations. Nothing checks a C caller: the caller must ensure each `requires` and what the types demand.
 #![tactic(auto)]

@@ -37,7 +37,7 @@ pub extern "C" fn routes_close(alloc: Global, handle: &mut Handle)
     ensures handle { IsHandle handle.new }
     ensures closed { IsClosed handle.new }
 {
-    drop(handle.take(alloc));
+    handle.close(alloc);
 }
 
 /// Opens a closed handle as a follower that has read no line: no address has a hop.
@@ -65,13 +65,13 @@ pub extern "C" fn routes_follower_close(alloc: Global, follower: &mut Handle)
     ensures handle { IsHandle follower.new }
     ensures closed { IsClosed follower.new }
 {
-    drop(follower.take(alloc));
+    follower.close(alloc);
 }
 
 /// Opens a closed handle as an index of the hops that an open table has now. It is a snapshot: later changes don't reach it.
 ///
-/// Returns 0. Fails with 2 if an allocation fails or the index would be too large, 3 if the table is closed, and 4 if the handle is open,
-/// whatever else applies. Then it is unchanged.
+/// Returns 0. Fails with 4 if the handle is open, else with 3 if the table is closed, and else with 2 if an allocation fails or the index
+/// would be too large. Then the handle is unchanged.
 #[unsafe(no_mangle)]
 pub extern "C" fn routes_index_open(alloc: Global, index: &mut Handle, table: &mut Handle) -> u32
     requires index { IsHandle index.old }
@@ -91,8 +91,8 @@ pub extern "C" fn routes_index_open(alloc: Global, index: &mut Handle, table: &m
 
 /// Opens a closed handle as an index of the hops that an open follower has now. It is a snapshot: later lines don't reach it.
 ///
-/// Returns 0. Fails with 2 if an allocation fails or the index would be too large, 3 if the follower is closed, 4 if the index is open,
-/// whatever else applies, and 8 after a fault of the follower. Then the index is unchanged.
+/// Returns 0. Fails with 4 if the index is open, else with 3 if the follower is closed, and else with 8 after a fault of the follower.
+/// Fails with 2 if an allocation fails or the index would be too large. Then the index is unchanged.
 #[unsafe(no_mangle)]
 pub extern "C" fn routes_follower_index(
     alloc: Global,
@@ -143,5 +143,5 @@ pub extern "C" fn routes_index_close(alloc: Global, index: &mut Handle)
     ensures handle { IsHandle index.new }
     ensures closed { IsClosed index.new }
 {
-    drop(index.take(alloc));
+    index.close(alloc);
 }

@@ -6,8 +6,8 @@ use Rattle.route_laws.specs.Operations.{after_all}
 use Rattle.route_table.specs.Operations.{operation_of}
 use Rattle.embedder.proofs.table.updated.Goals as goal
 
-pub returns : goal.returns
-returns c =
+pub returns-clause-fewest : goal.returns-clause-fewest
+returns-clause-fewest c =
     let M = routes_of c.args.table.now in
     let rs = routes_for c.args.changes.now in
     let u = c.in_ok-operations.ensures.updates in

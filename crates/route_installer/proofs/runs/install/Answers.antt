@@ -1,12 +1,10 @@
 use Rattle.std.proofs.Common.{Ok}
 use Rattle.std.proofs.lemmas.Result.{err_from_is_err_and}
-use Rattle.route_installer.proofs.Installed.{install_ended, install_known, install_none, install_stopped}
+use Rattle.route_installer.proofs.Installed.{install_ended, install_known, install_stopped}
 use Rattle.route_installer.proofs.runs.install.Goals as goal
 
 pub returns-in_err-installer-clause-ends : goal.returns-in_err-installer-clause-ends
-returns-in_err-installer-clause-ends g c =
-    let p = err_from_is_err_and c.from_residual-in_err-installer.result c.from_residual-in_err-installer.ensures.1 in
-    rw (p.1, p.2) (install_none g.R.Read.remaining g.W.Write.contents c.args.reader.now c.args.writer.now _ c.in_err-installer.ensures.memory)
+returns-in_err-installer-clause-ends g c = absurd c.in_err-installer.ensures.ok
 
 pub returns-in_err-run-clause-ends : goal.returns-in_err-run-clause-ends
 returns-in_err-run-clause-ends g c =
