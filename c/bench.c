@@ -172,38 +172,38 @@ static routes_table table;
 static routes_index indexed;
 
 static void add4(const struct line *line) {
-    routes_change c;
+    routes_change c = {0};
     held(routes_add4(&table, (uint32_t)line->low, line->len, line->hop, ROUTES_PREFERENCE, &c) == ROUTES_OK, "add");
 }
 
 static void add6(const struct line *line) {
-    routes_change c;
+    routes_change c = {0};
     held(routes_add6(&table, line->high, line->low, line->len, line->hop, ROUTES_PREFERENCE, &c) == ROUTES_OK, "add");
 }
 
 static void del4(const struct line *line) {
-    routes_change c;
+    routes_change c = {0};
     held(routes_del4(&table, (uint32_t)line->low, line->len, line->hop, &c) == ROUTES_OK, "del");
 }
 
 static void del6(const struct line *line) {
-    routes_change c;
+    routes_change c = {0};
     held(routes_del6(&table, line->high, line->low, line->len, line->hop, &c) == ROUTES_OK, "del");
 }
 
 static size_t stored(void) {
-    size_t ipv4, ipv6;
+    size_t ipv4 = 0, ipv6 = 0;
     held(routes_count(&table, &ipv4, &ipv6) == ROUTES_OK, "count");
     return ipv4 + ipv6;
 }
 
 static void get4(struct asked *a) {
-    routes_route r;
+    routes_route r = {0};
     for (size_t i = 0; i < a->count; i++) a->hops[i] = routes_get4(&table, a->v4[i], &r) == ROUTES_OK ? r.hop : ROUTES_DROP;
 }
 
 static void get6(struct asked *a) {
-    routes_route r;
+    routes_route r = {0};
     for (size_t i = 0; i < a->count; i++)
         a->hops[i] = routes_get6(&table, a->v6[i].high, a->v6[i].low, &r) == ROUTES_OK ? r.hop : ROUTES_DROP;
 }
@@ -241,7 +241,7 @@ static double allocated(void) {
 /* A table whose hops are line numbers shows which network is matched. */
 static void matched(const struct lines *lines, const struct asked *asked, int file) {
     uint64_t sum = 0;
-    routes_route r;
+    routes_route r = {0};
     for (size_t i = 0; i < lines->count; i++) {
         struct line line = lines->at[i];
         line.hop = i;
@@ -265,7 +265,7 @@ struct reader {
 static void *reads(void *given) {
     struct reader *reader = given;
     const struct asked *a = reader->asked;
-    uint64_t hops[MANY];
+    uint64_t hops[MANY] = {0};
     for (size_t i = 0; i < a->count; i += MANY) {
         if (is_v6) routes_index_hop6_many(&reader->index, a->v6 + i, part(a, i), hops, MANY);
         else routes_index_hop4_many(&reader->index, a->v4 + i, part(a, i), hops, MANY);

@@ -6,8 +6,11 @@
 #include <string.h>
 
 _Static_assert(sizeof(routes_table) == 16 && offsetof(routes_table, is_open) == 8, "layout");
-_Static_assert(sizeof(routes_route) == 32 && offsetof(routes_route, pref) == 24 && offsetof(routes_route, len) == 27, "layout");
-_Static_assert(sizeof(routes_piece) == 24 && offsetof(routes_piece, family) == 20, "layout");
+_Static_assert(sizeof(routes_route) == 32 && offsetof(routes_route, hop) == 16 && offsetof(routes_route, pref) == 24, "layout");
+_Static_assert(offsetof(routes_route, family) == 26 && offsetof(routes_route, len) == 27, "layout");
+_Static_assert(sizeof(routes_change) == 16 && offsetof(routes_change, after) == 8, "layout");
+_Static_assert(sizeof(routes_piece) == 24 && offsetof(routes_piece, hop) == 16, "layout");
+_Static_assert(offsetof(routes_piece, family) == 20 && offsetof(routes_piece, len) == 21, "layout");
 _Static_assert(sizeof(routes_index) == 16 && offsetof(routes_index, is_open) == 8, "layout");
 _Static_assert(sizeof(routes_follower) == 16 && offsetof(routes_follower, is_open) == 8, "layout");
 _Static_assert(sizeof(routes_addr6) == 16 && offsetof(routes_addr6, low) == 8, "layout");
@@ -162,7 +165,7 @@ static void shared(routes_table *t) {
 static void copied(routes_table *t) {
     static routes_index index = ROUTES_INDEX;
     routes_table shut = ROUTES_TABLE;
-    routes_change c;
+    routes_change c = {0};
     uint32_t addr4 = 1;
     routes_addr6 addr6 = {1, 1};
     uint64_t hop = 77, was;
@@ -229,7 +232,7 @@ static void changed(routes_table *t) {
 
 /* The flat list, copied in parts of 7, is that which is read by index. The room after its end is unchanged. */
 static void pieces_read(routes_table *t, size_t length) {
-    routes_piece p, part[7];
+    routes_piece p = {0}, part[7];
     size_t from = 0, got;
     do {
         memset(part, 0x5a, sizeof part);
@@ -246,7 +249,7 @@ static void pieces_read(routes_table *t, size_t length) {
 
 /* The blocks of the flat list ascend, and have the hops of the model. The list is unchanged until it is made again. */
 static void listed(routes_table *t) {
-    routes_piece p, last = {0, 0, 0, 0, 0};
+    routes_piece p = {0}, last = {0};
     size_t pieces = 0;
     CHECK(routes_flat(t) == ROUTES_OK);
     for (; routes_piece_at(t, pieces, &p) == ROUTES_OK; pieces++, last = p) {
@@ -317,7 +320,7 @@ static int is_shown(const routes_route *r, const struct kept *k) {
 
 /* The list has exactly these routes, read one by one and in parts. */
 static void has(routes_table *t, const struct kept *wanted, size_t length) {
-    routes_route r, mark, part[8];
+    routes_route r = {0}, mark, part[8] = {{0}};
     size_t from = 0, got;
     for (size_t i = 0; i < length; i++) CHECK(routes_route_at(t, i, &r) == ROUTES_OK && is_shown(&r, &wanted[i]));
     memset(&mark, 0x5a, sizeof mark);
@@ -345,7 +348,7 @@ static number size_of(int family, int len) { return width(family) - len == 128 ?
 static void governed(routes_table *t, const struct kept *sorted, const struct kept *n) {
     const struct kept *found = match(n->family, n->addr, n->len);
     number left = size_of(n->family, n->len), end = n->addr;
-    routes_route r, last = {0, 0, 0, 0, 0, 0};
+    routes_route r = {0}, last = {0};
     made(t, GOVERNED, n, 0);
     for (const struct kept *k = sorted; k < sorted + count; k++)
         if (is_listed(LIST, k, n) && k->len > n->len && k->addr >= end) {
@@ -368,8 +371,8 @@ static void governed(routes_table *t, const struct kept *sorted, const struct ke
 
 /* The blocks of a hop number are those of the flat list. */
 static void owned(routes_table *t, uint32_t hop) {
-    routes_piece p;
-    routes_route r;
+    routes_piece p = {0};
+    routes_route r = {0};
     size_t at = 0;
     CHECK(routes_own(t, hop) == ROUTES_OK && routes_flat(t) == ROUTES_OK);
     for (size_t i = 0; routes_piece_at(t, i, &p) == ROUTES_OK; i++)
@@ -431,7 +434,7 @@ static void listed_routes(routes_table *t) {
 static void answered(routes_table *t) {
     static const char line[] = "cover ::/0", wanted[] = "route ::/0 7 100\nok\n";
     char out[64];
-    routes_change c;
+    routes_change c = {0};
     struct kept k = {6, 0, 100, 0, 7};
     while (routes_del6(t, 0, 0, 0, 7, &c) == ROUTES_OK) {}
     for (uint64_t hop = 0; hop <= 10; hop++) (void)routes_del6(t, 0, 0, 0, hop == 10 ? ROUTES_DROP : hop, &c);
@@ -474,7 +477,7 @@ static void tells_hops(routes_follower *f) {
 /* The follower's least table is as long as the table's, and has the hops of the model. The list is read one by one and in parts. */
 static void tells_least(routes_table *t, routes_follower *f) {
     static routes_route whole[MOST], part[MOST];
-    routes_route r;
+    routes_route r = {0};
     size_t length = 0, from = 0, got;
     CHECK(routes_least(t) == ROUTES_OK && routes_follower_least(f) == ROUTES_OK);
     for (; routes_follower_route_at(f, length, &r) == ROUTES_OK && length < MOST; length++) whole[length] = r;
@@ -493,6 +496,7 @@ static void tells_least(routes_table *t, routes_follower *f) {
 /* After a fault the follower returns no hops and makes no lists; earlier lists can be read. A closed follower has none. */
 static void tells_nothing(routes_follower *f, uint32_t code) {
     routes_route r, mark;
+    routes_piece p = {0}, q = {0};
     uint32_t hop = 77;
     memset(&mark, 0x5a, sizeof mark);
     r = mark;
@@ -502,6 +506,8 @@ static void tells_nothing(routes_follower *f, uint32_t code) {
         CHECK(routes_follower_route_at(f, 0, &r) == code && routes_follower_read(f, 0, &r, 1) == 0 && memcmp(&r, &mark, sizeof r) == 0);
     else
         CHECK(routes_follower_route_at(f, 0, &r) == ROUTES_OK && routes_follower_read(f, 0, &mark, 1) == 1 && memcmp(&r, &mark, sizeof r) == 0);
+    CHECK(routes_follower_piece_at(f, 0, &p) == (code == ROUTES_CLOSED ? code : ROUTES_OK));
+    CHECK(routes_follower_read_pieces(f, 0, &q, 1) == (code == ROUTES_CLOSED ? 0 : 1) && p.high == q.high && p.low == q.low && p.hop == q.hop);
 }
 
 /* A follower whose changes are the lines of the flat list has the hops of the table. A change is pending until `ok`. */
@@ -510,7 +516,7 @@ static void followed(routes_table *t) {
     routes_index index = ROUTES_INDEX;
     routes_piece p, q;
     routes_route none;
-    char line[80], out[80];
+    char line[80], out[80] = {0};
     size_t pieces = 0;
     memset(&none, 0x5a, sizeof none);
     memset(&p, 0x5a, sizeof p);
@@ -587,15 +593,69 @@ static void closed(routes_table *t) {
     CHECK(t->at == NULL && !t->is_open);
 }
 
-/* A follower passed as a table; it is unchanged. */
-static void of_another_kind(void) {
-    routes_follower f = ROUTES_FOLLOWER;
-    uint32_t hop = 77;
+/* A follower and an index passed as tables, and a table passed as either; all are unchanged. Any of the close calls frees a handle. */
+static void of_another_kind(routes_table *t) {
+    routes_follower f = ROUTES_FOLLOWER, *as_follower = (routes_follower *)t;
+    routes_index index = ROUTES_INDEX, shut = ROUTES_INDEX, *as_index = (routes_index *)t;
+    uint32_t number = 77;
+    uint64_t hop = 77;
     CHECK(routes_follower_open(&f) == ROUTES_OK && follow(&f, "set 10.0.0.0/8 1") == ROUTES_OK && follow(&f, "ok") == ROUTES_OK);
+    CHECK(routes_index_open(&index, t) == ROUTES_OK);
     answers_closed((routes_table *)&f);
-    CHECK(routes_open((routes_table *)&f) == ROUTES_OPEN);
-    CHECK(routes_follower_get4(&f, 0x0a000001, &hop) == ROUTES_OK && hop == 1);
+    answers_closed((routes_table *)&index);
+    CHECK(follow(as_follower, "ok") == ROUTES_CLOSED && routes_follower_get4(as_follower, 1, &number) == ROUTES_CLOSED && number == 77);
+    CHECK(routes_follower_flat(as_follower) == ROUTES_CLOSED && routes_follower_least(as_follower) == ROUTES_CLOSED);
+    CHECK(routes_follower_index(&shut, as_follower) == ROUTES_CLOSED && routes_index_share(&shut, as_index) == ROUTES_CLOSED && !shut.is_open);
+    CHECK(routes_index_hop4(as_index, 1, &hop) == ROUTES_CLOSED && routes_index_hop6(as_index, 1, 1, &hop) == ROUTES_CLOSED && hop == 77);
+    CHECK(routes_open((routes_table *)&f) == ROUTES_OPEN && routes_follower_open(as_follower) == ROUTES_OPEN);
+    CHECK(routes_index_open((routes_index *)&f, t) == ROUTES_OPEN && routes_index_share((routes_index *)&f, &index) == ROUTES_OPEN);
+    CHECK(routes_follower_index(as_index, &f) == ROUTES_OPEN);
+    CHECK(routes_follower_get4(&f, 0x0a000001, &number) == ROUTES_OK && number == 1);
+    has_hops(&index);
+    routes_index_close((routes_index *)&f);
+    routes_close((routes_table *)&index);
+    CHECK(f.at == NULL && !f.is_open && index.at == NULL && !index.is_open);
+}
+
+/* If several results apply, a length comes first, and an open handle before all that the other handle lacks. */
+static void in_order(routes_table *t) {
+    routes_table shut = ROUTES_TABLE;
+    routes_index index = ROUTES_INDEX, closed = ROUTES_INDEX;
+    routes_follower f = ROUTES_FOLLOWER;
+    routes_change c = {77, 78};
+    CHECK(routes_add4(&shut, 0, 33, 1, 1, &c) == ROUTES_TOO_LONG && routes_add6(&shut, 0, 0, 129, 1, 1, &c) == ROUTES_TOO_LONG);
+    CHECK(routes_del4(&shut, 0, 33, 1, &c) == ROUTES_TOO_LONG && routes_del6(&shut, 0, 0, 129, 1, &c) == ROUTES_TOO_LONG);
+    for (int kind = LIST; kind <= GOVERNED; kind++)
+        CHECK(list4(&shut, kind, 1, 33, 1) == ROUTES_TOO_LONG && list6(&shut, kind, 1, 1, 129, 1) == ROUTES_TOO_LONG);
+    CHECK(c.before == 77 && c.after == 78 && routes_index_open(&index, t) == ROUTES_OK);
+    CHECK(routes_index_open(&index, &shut) == ROUTES_OPEN && routes_index_share(&index, &closed) == ROUTES_OPEN);
+    CHECK(routes_follower_index(&index, &f) == ROUTES_OPEN);
+    CHECK(routes_follower_open(&f) == ROUTES_OK && follow(&f, "no line") == ROUTES_NOT_A_LINE && routes_follower_index(&index, &f) == ROUTES_OPEN);
+    has_hops(&index);
+    routes_index_close(&index);
     routes_follower_close(&f);
+}
+
+/* The greatest hops, limits and indexes, and the halves of an address. */
+static void at_the_ends(void) {
+    static const uint8_t bytes[16] = {0x20, 0x01, 0x0d, 0xb8, 0, 0, 0, 1, 0xff, 0, 0, 0, 0, 0, 0, 2};
+    routes_table t = ROUTES_TABLE;
+    routes_route r = {0};
+    routes_change c = {77, 78};
+    routes_piece p = {0};
+    uint8_t out = '#';
+    CHECK(routes_half(bytes) == UINT64_C(0x20010db800000001) && routes_half(bytes + 8) == UINT64_C(0xff00000000000002));
+    CHECK(routes_open(&t) == ROUTES_OK && routes_add4(&t, 0, 0, UINT64_MAX, 1, &c) == ROUTES_OK && routes_add6(&t, 0, 0, 0, ROUTES_DROP + 1, 1, &c) == ROUTES_OK);
+    CHECK(c.before == ROUTES_DROP && c.after == ROUTES_DROP && routes_get4(&t, 1, &r) == ROUTES_OK && r.hop == ROUTES_DROP);
+    CHECK(routes_from4(&t, 0, 0, SIZE_MAX) == ROUTES_OK && routes_read(&t, 0, &r, 1) == 1 && routes_read(&t, SIZE_MAX, &r, 1) == 0);
+    CHECK(routes_from6(&t, 0, 0, 0, SIZE_MAX) == ROUTES_OK && routes_route_at(&t, 0, &r) == ROUTES_OK && routes_route_at(&t, SIZE_MAX, &r) == ROUTES_MISSING);
+    CHECK(routes_after4(&t, 0, 0, SIZE_MAX) == ROUTES_OK && routes_route_at(&t, 0, &r) == ROUTES_MISSING);
+    CHECK(routes_after6(&t, 0, 0, 0, SIZE_MAX) == ROUTES_OK && routes_route_at(&t, 0, &r) == ROUTES_MISSING);
+    CHECK(routes_piece_at(&t, SIZE_MAX, &p) == ROUTES_MISSING && routes_reply(&t, SIZE_MAX, &out, 1) == 0 && out == '#');
+    CHECK(routes_del4(&t, 0, 0, ROUTES_DROP + 2, &c) == ROUTES_OK && routes_del6(&t, 0, 0, 0, UINT64_MAX, &c) == ROUTES_OK);
+    CHECK(routes_get4(&t, 1, &r) == ROUTES_MISSING);
+    routes_follower_close((routes_follower *)&t);
+    CHECK(t.at == NULL && !t.is_open);
 }
 
 int main(void) {
@@ -608,7 +668,7 @@ int main(void) {
     CHECK(c.before == 77 && c.after == 78);
     for (int kind = LIST; kind <= GOVERNED; kind++)
         CHECK(list4(&t, kind, 1, 33, 1) == ROUTES_TOO_LONG && list6(&t, kind, 1, 1, 129, 1) == ROUTES_TOO_LONG);
-    routes_route none = {0, 0, 0, 0, 0, 0};
+    routes_route none = {0};
     CHECK(routes_route_at(&t, 0, &none) == ROUTES_MISSING && routes_read(&t, 0, &none, 1) == 0);
     for (int turn = 0; turn < TURNS && count < MOST; turn++) {
         changed(&t);
@@ -620,9 +680,11 @@ int main(void) {
     }
     listed(&t);
     followed(&t);
-    of_another_kind();
+    of_another_kind(&t);
+    in_order(&t);
+    at_the_ends();
     answered(&t);
-    routes_route r;
+    routes_route r = {0};
     CHECK(routes_get4(&other, 1, &r) == ROUTES_MISSING);
     routes_close(&other);
     routes_close(&t);

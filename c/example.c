@@ -4,15 +4,15 @@
 
 int main(void) {
     routes_table table = ROUTES_TABLE;
-    routes_change change;
-    routes_route route;
-    routes_piece piece;
-    uint8_t reply[256];
+    routes_change change = {0};
+    routes_route route = {0};
+    routes_piece piece = {0};
+    uint8_t reply[256] = {0};
     static const uint8_t line[] = "cover 10.64.0.0/10";
 
     if (routes_open(&table) != ROUTES_OK) return 1;
-    routes_add4(&table, 0x0a000000, 8, 1, ROUTES_PREFERENCE, &change); /* 10.0.0.0/8 to hop 1 */
-    routes_add4(&table, 0x0a400000, 10, 2, ROUTES_PREFERENCE, &change); /* 10.64.0.0/10 to hop 2 */
+    if (routes_add4(&table, 0x0a000000, 8, 1, ROUTES_PREFERENCE, &change) != ROUTES_OK) return 1; /* 10.0.0.0/8 to hop 1 */
+    if (routes_add4(&table, 0x0a400000, 10, 2, ROUTES_PREFERENCE, &change) != ROUTES_OK) return 1; /* 10.64.0.0/10 to hop 2 */
     if (change.before != change.after) printf("from hop %u to %u\n", (unsigned)change.before, (unsigned)change.after);
 
     if (routes_get4(&table, 0x0a410203, &route) == ROUTES_OK) /* 10.65.2.3 */

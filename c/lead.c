@@ -24,7 +24,7 @@ static int read_all(void) {
 }
 
 static int answer(routes_table *table, const uint8_t *line, size_t len) {
-    uint8_t out[4096];
+    uint8_t out[4096] = {0};
     if (routes_line(table, line, len) != ROUTES_OK) return 1;
     for (size_t from = 0, got; (got = routes_reply(table, from, out, sizeof out)) > 0; from += got)
         if (fwrite(out, 1, got, stdout) != got) return 1;

@@ -6,6 +6,7 @@
 #include <string.h>
 
 #define NETWORKS 120
+#define HIGH UINT64_C(0x20010db800000000)
 
 void *__real_malloc(size_t size);
 void *__real_realloc(void *block, size_t size);
@@ -39,9 +40,22 @@ static void added(routes_table *t, uint32_t i) {
     WANT(code == ROUTES_OK && routes_get4(t, addr_of(i), &now) == ROUTES_OK && now.hop == i);
 }
 
+/* An IPv6 `add`, which is repeated in the same way. */
+static void added6(routes_table *t) {
+    routes_route r = {0};
+    routes_change c = {77, 78};
+    uint32_t code = routes_add6(t, HIGH, 0, 32, 5, 100, &c);
+    if (code == ROUTES_NO_MEMORY) {
+        refused++;
+        WANT(c.before == 77 && c.after == 78 && routes_get6(t, HIGH, 1, &r) == ROUTES_MISSING);
+        code = routes_add6(t, HIGH, 0, 32, 5, 100, &c);
+    }
+    WANT(code == ROUTES_OK && routes_get6(t, HIGH, 1, &r) == ROUTES_OK && r.hop == 5 && r.family == 6);
+}
+
 /* A list and a reply: if an allocation fails, the list is unchanged, and the reply is a beginning. */
 static void told(routes_table *t) {
-    routes_piece p = {0, 0, 0, 0, 0};
+    routes_piece p = {0};
     static const uint8_t line[] = "list 0.0.0.0/0";
     static uint8_t whole[16384], cut[16384];
     uint32_t code = routes_flat(t);
@@ -63,20 +77,58 @@ static void told(routes_table *t) {
     WANT(some <= all && memcmp(cut, whole, some) == 0 && (code == ROUTES_NO_MEMORY || some == all));
 }
 
+/* Carries out a line. If it finds no memory, it is refused, or a beginning of its reply is stored. Then it is carried out again. */
+static void line_told(routes_table *t, const char *line) {
+    static uint8_t whole[1 << 17], cut[1 << 17];
+    uint32_t code = routes_line(t, (const uint8_t *)line, strlen(line));
+    size_t some = routes_reply(t, 0, cut, sizeof cut);
+    int was_refused = code == ROUTES_OK && some == 8 && memcmp(cut, "refused\n", 8) == 0;
+    WANT(code == ROUTES_OK || code == ROUTES_NO_MEMORY);
+    if (code == ROUTES_OK && !was_refused) return;
+    refused++;
+    WANT(routes_line(t, (const uint8_t *)line, strlen(line)) == ROUTES_OK);
+    size_t all = routes_reply(t, 0, whole, sizeof whole);
+    WANT(was_refused || *line == 'a' || (some <= all && memcmp(cut, whole, some) == 0));
+}
+
+/* Lines: `add` has added its route, at the latest when it is carried out again. */
+static void lines_told(routes_table *t) {
+    routes_route r = {0};
+    routes_change c = {0};
+    line_told(t, "add 192.0.2.0/24 7");
+    WANT(routes_get4(t, 0xc0000201, &r) == ROUTES_OK && r.hop == 7 && r.len >= 24);
+    line_told(t, "own 7");
+    line_told(t, "flat");
+    WANT(routes_del4(t, 0xc0000200, 24, 7, &c) == ROUTES_OK);
+}
+
+/* A list of this kind. */
+static uint32_t made(routes_table *t, int kind) {
+    switch (kind) {
+    case 0: return routes_list4(t, 0, 0);
+    case 1: return routes_cover4(t, addr_of(1), 32);
+    case 2: return routes_from4(t, 0, 0, 50);
+    case 3: return routes_after4(t, 0, 0, 50);
+    case 4: return routes_all4(t, addr_of(1), len_of(1));
+    case 5: return routes_governed4(t, 0, 0);
+    case 6: return routes_own(t, 1);
+    case 7: return routes_least(t);
+    case 8: return routes_list6(t, 0, 0, 0);
+    case 9: return routes_cover6(t, HIGH, 0, 64);
+    case 10: return routes_from6(t, 0, 0, 0, 50);
+    case 11: return routes_after6(t, 0, 0, 0, 50);
+    case 12: return routes_all6(t, HIGH, 0, 32);
+    default: return routes_governed6(t, HIGH, 0, 32);
+    }
+}
+
 /* Lists of routes: if an allocation fails, the list is unchanged, and the next try makes it. */
 static void listed(routes_table *t) {
-    for (int kind = 0; kind < 8; kind++) {
-        routes_route before = {0, 0, 0, 0, 0, 0}, after = before;
+    for (int kind = 0; kind < 14; kind++) {
+        routes_route before = {0}, after = before;
         uint32_t was = routes_route_at(t, 0, &before), code = ROUTES_NO_MEMORY;
         for (int tries = 0; code == ROUTES_NO_MEMORY && tries < 2; tries++) {
-            code = kind == 0   ? routes_list4(t, 0, 0)
-                   : kind == 1 ? routes_cover4(t, addr_of(1), 32)
-                   : kind == 2 ? routes_from4(t, 0, 0, 50)
-                   : kind == 3 ? routes_after4(t, 0, 0, 50)
-                   : kind == 4 ? routes_all4(t, addr_of(1), len_of(1))
-                   : kind == 5 ? routes_governed4(t, 0, 0)
-                   : kind == 6 ? routes_own(t, 1)
-                               : routes_least(t);
+            code = made(t, kind);
             if (code != ROUTES_NO_MEMORY) break;
             refused++;
             WANT(routes_route_at(t, 0, &after) == was && memcmp(&before, &after, sizeof before) == 0);
@@ -113,7 +165,7 @@ static void indexed(routes_table *t) {
     WANT(code == ROUTES_OK);
     long before = asked;
     for (uint32_t i = 0; i < NETWORKS; i++) {
-        routes_route r = {0, 0, 0, 0, 0, 0};
+        routes_route r = {0};
         WANT(routes_get4(t, addr_of(i), &r) == ROUTES_OK && routes_index_hop4(&index, addr_of(i), &hop) == ROUTES_OK && hop == r.hop);
     }
     WANT(asked == before);
@@ -133,7 +185,7 @@ static uint32_t followed(routes_follower *f) {
 
 /* A follower's list of routes: if an allocation fails, it is unchanged, and the next try makes it. Lookups do not allocate. */
 static void least_of(routes_follower *f) {
-    routes_route r = {0, 0, 0, 0, 0, 0};
+    routes_route r = {0};
     uint32_t hop = 77;
     long before = asked;
     WANT(routes_follower_get4(f, 0x0a100000, &hop) == ROUTES_OK && hop == 1 && routes_follower_get4(f, 0x0a010000, &hop) == ROUTES_MISSING && hop == 1);
@@ -150,7 +202,7 @@ static void least_of(routes_follower *f) {
 static void told_of(void) {
     routes_follower f = ROUTES_FOLLOWER;
     routes_index index = ROUTES_INDEX;
-    routes_piece p = {0, 0, 0, 0, 0};
+    routes_piece p = {0};
     uint32_t code = ROUTES_NO_MEMORY;
     for (int tries = 0; code == ROUTES_NO_MEMORY && tries < 2; tries++) {
         uint32_t opened = routes_follower_open(&f);
@@ -179,7 +231,7 @@ static void told_of(void) {
 /* Runs all of it with one allocation failing, and returns the number of allocations. */
 static long tried(long request) {
     routes_table t = ROUTES_TABLE;
-    routes_change c;
+    routes_change c = {0};
     left = request;
     asked = 0;
     uint32_t code = routes_open(&t);
@@ -190,7 +242,9 @@ static long tried(long request) {
     }
     WANT(code == ROUTES_OK);
     for (uint32_t i = 0; i < NETWORKS; i++) added(&t, i);
+    added6(&t);
     told(&t);
+    lines_told(&t);
     listed(&t);
     indexed(&t);
     told_of();

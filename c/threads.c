@@ -39,8 +39,8 @@ static uint32_t follow(routes_follower *f, const char *line) { return routes_fol
 
 /* The step's address gets its hop, and the step before still has its own. */
 static void changed(struct set *s) {
-    routes_change c;
-    routes_route r;
+    routes_change c = {0};
+    routes_route r = {0};
     uint32_t addr = addr_of(s, s->step);
     WANT(routes_add4(&s->table, addr, 32, s->step, ROUTES_PREFERENCE, &c) == ROUTES_OK && c.before == ROUTES_DROP && c.after == s->step);
     WANT(routes_get4(&s->table, addr, &r) == ROUTES_OK && r.hop == s->step);
@@ -72,8 +72,8 @@ static void indexed(struct set *s) {
 
 /* Lists are made at one step, and read at the next. */
 static void listed(struct set *s) {
-    routes_piece p;
-    routes_route r;
+    routes_piece p = {0};
+    routes_route r = {0};
     if (s->step % 20 == 4) {
         WANT(routes_flat(&s->table) == ROUTES_OK && routes_least(&s->table) == ROUTES_OK);
         WANT(routes_follower_flat(&s->follower) == ROUTES_OK && routes_follower_least(&s->follower) == ROUTES_OK);
@@ -149,7 +149,7 @@ static uint32_t shared(routes_index *mine) {
 /* All addresses of an index have its version as their hop. */
 static void looked_up(routes_index *mine, uint32_t now) {
     uint32_t addrs[ADDRS];
-    uint64_t hops[ADDRS], hop;
+    uint64_t hops[ADDRS] = {0}, hop = 0;
     for (uint32_t i = 0; i < ADDRS; i++) {
         addrs[i] = 0x0a000000 | i * 0x3ffff;
         WANT(routes_index_hop4(mine, addrs[i], &hop) == ROUTES_OK && hop == now);
@@ -174,7 +174,7 @@ static void *reads(void *unused) {
 
 /* Changes the table, makes an index, and publishes it in place of the one before, which readers may still have. */
 static void publish(routes_table *table) {
-    routes_change c;
+    routes_change c = {0};
     routes_index *old = published, *next = old == handles ? handles + 1 : handles;
     WANT(version == 0 || routes_del4(table, 0x0a000000, 8, version, &c) == ROUTES_OK);
     WANT(routes_add4(table, 0x0a000000, 8, version + 1, ROUTES_PREFERENCE, &c) == ROUTES_OK);

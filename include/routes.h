@@ -9,15 +9,17 @@
  *      routes_follower.
  *   2. Every other pointer must be non-null, even for length 0. It must point to initialized memory of full size, even if the
  *      call fails. No two pointers of a call may overlap.
- *   3. Make one call at a time on a table, an index or a follower, lookups included. Any thread may make a call after the
- *      previous one has returned and the threads have synchronized, as by a mutex, a queue or pthread_join. Calls on different
- *      handles may run at the same time, also on handles that share one index (routes_index_share).
+ *   3. Make one call at a time on a table, an index or a follower, lookups included. A call that takes two of them is a call on
+ *      both. Any thread may make a call after the previous one has returned, if a lock, the start or join of a thread, or a
+ *      sequentially consistent atomic orders the two. The proofs do not cover acquire and release. Calls on different handles
+ *      may run at the same time, also on handles that share one index (routes_index_share).
  *   4. malloc, realloc and free belong to one allocator on all threads, as those of the C library do: memory that one thread
  *      allocated may be freed by another. Make no call in a signal handler, or in the forked child of a process with threads.
  *
  * Numbers are in host byte order: an IPv4 address is ntohl(in_addr.s_addr). An IPv6 address is two numbers, its upper and its
  * lower half, which routes_half reads from the 16 bytes of an in6_addr. A call that takes a network ignores the address bits
- * after the length. In a network that a call returns, these bits are 0.
+ * after the length. In a network that a call returns, these bits are 0. Check a length or a preference before you pass it from a
+ * larger type: C makes 0 of 256 without a word.
  *
  * A call that can fail returns a routes_answer. If it is not ROUTES_OK, the table, its lists and the targets of the pointers are
  * unchanged. There are two exceptions, routes_line and routes_follower_line. */
@@ -91,14 +93,14 @@ typedef struct routes_addr6 {
     uint64_t high, low;
 } routes_addr6;
 
-/* Opens a closed table, without networks. Returns ROUTES_OK, ROUTES_NO_MEMORY or ROUTES_OPEN. */
+/* Opens a closed table, without networks. Its lists and its reply are empty. Returns ROUTES_OK, ROUTES_NO_MEMORY or ROUTES_OPEN. */
 uint32_t routes_open(routes_table *table);
 
 /* Closes a table, and frees its memory. A closed table stays closed. A table may be opened again. */
 void routes_close(routes_table *table);
 
-/* Looks up the longest match of an address: the best route of the longest stored network that contains it. Returns ROUTES_OK and
- * the route, ROUTES_MISSING if no stored network contains the address, or ROUTES_CLOSED. */
+/* Looks up the longest match of an address: the best route of the longest stored network that contains it. Does not allocate.
+ * Returns ROUTES_OK and the route, ROUTES_MISSING if no stored network contains the address, or ROUTES_CLOSED. */
 uint32_t routes_get4(routes_table *table, uint32_t addr, routes_route *route);
 uint32_t routes_get6(routes_table *table, uint64_t high, uint64_t low, routes_route *route);
 
@@ -123,8 +125,8 @@ uint32_t routes_del4(routes_table *table, uint32_t addr, uint8_t len, uint64_t h
 uint32_t routes_del6(routes_table *table, uint64_t high, uint64_t low, uint8_t len, uint64_t hop, routes_change *change);
 
 /* Makes the flat list, in the table's memory: the fewest one-hop blocks that cover just the addresses with a hop, IPv4 first,
- * ascending. The list is unchanged until the next routes_flat, even if the table changes. Returns ROUTES_OK, ROUTES_NO_MEMORY or
- * ROUTES_CLOSED. */
+ * ascending. The list keeps its memory, and is unchanged, until the next routes_flat or the close, even if the table changes.
+ * Returns ROUTES_OK, ROUTES_NO_MEMORY or ROUTES_CLOSED. */
 uint32_t routes_flat(routes_table *table);
 
 /* Reads the block at an index of this list, which is empty before the first routes_flat. Returns ROUTES_OK, ROUTES_MISSING past
@@ -135,9 +137,9 @@ uint32_t routes_piece_at(routes_table *table, size_t index, routes_piece *piece)
  * closed table. The rest of `pieces` is unchanged. */
 size_t routes_read_pieces(routes_table *table, size_t from, routes_piece *pieces, size_t room);
 
-/* The list of routes, in the table's memory. Each of the calls down to routes_least makes a new list. The list is unchanged until
- * the next of these calls, even if the table changes. routes_route_at and routes_read read it. Each of these calls returns
- * ROUTES_OK, ROUTES_NO_MEMORY, ROUTES_TOO_LONG if it takes a length, or ROUTES_CLOSED.
+/* The list of routes, in the table's memory. Each of the calls down to routes_least makes a new list. The list keeps its memory,
+ * and is unchanged, until the next of these calls or the close, even if the table changes. routes_route_at and routes_read read
+ * it. Each of these calls returns ROUTES_OK, ROUTES_NO_MEMORY, ROUTES_TOO_LONG if it takes a length, or ROUTES_CLOSED.
  *
  * routes_list: the best routes of the stored networks inside the network, itself included, ascending. A network comes before
  * those inside it. */
@@ -199,8 +201,8 @@ typedef struct routes_index {
 } routes_index;
 #define ROUTES_INDEX {NULL, false}
 
-/* Opens a closed index, with the hops that the table has now. Returns ROUTES_OK, ROUTES_NO_MEMORY, ROUTES_CLOSED if the table is
- * not open, or ROUTES_OPEN if the index is. */
+/* Opens a closed index, with the hops that the table has now. It needs the table no longer: the table may change or be closed.
+ * Returns ROUTES_OK, ROUTES_NO_MEMORY, ROUTES_CLOSED if the table is not open, or ROUTES_OPEN if the index is. */
 uint32_t routes_index_open(routes_index *index, routes_table *table);
 
 /* Opens a closed index as another handle of the snapshot that `from` has. Copies nothing of the snapshot. Each of the handles is
@@ -230,7 +232,7 @@ typedef struct routes_follower {
 } routes_follower;
 #define ROUTES_FOLLOWER {NULL, false}
 
-/* Opens a closed follower: no address has a hop. Returns ROUTES_OK, ROUTES_NO_MEMORY or ROUTES_OPEN. */
+/* Opens a closed follower: no address has a hop, and its lists are empty. Returns ROUTES_OK, ROUTES_NO_MEMORY or ROUTES_OPEN. */
 uint32_t routes_follower_open(routes_follower *follower);
 
 /* Closes a follower, and frees its memory. A closed follower stays closed. A follower may be opened again. */
@@ -267,8 +269,9 @@ uint32_t routes_follower_route_at(routes_follower *follower, size_t index, route
 /* Copies this list from index `from` on, as routes_read does. Returns 0 at the end, and for a closed follower. */
 size_t routes_follower_read(routes_follower *follower, size_t from, routes_route *routes, size_t room);
 
-/* Opens a closed index, with the hops that the follower has now. It is a snapshot: later lines are not visible. Returns
- * ROUTES_OK, ROUTES_NO_MEMORY, ROUTES_CLOSED if the follower is not open, ROUTES_FAILED, or ROUTES_OPEN if the index is open. */
+/* Opens a closed index, with the hops that the follower has now. It is a snapshot: later lines are not visible, and the follower
+ * may be closed. Returns ROUTES_OK, ROUTES_NO_MEMORY, ROUTES_CLOSED if the follower is not open, ROUTES_FAILED, or ROUTES_OPEN if
+ * the index is open. */
 uint32_t routes_follower_index(routes_index *index, routes_follower *follower);
 
 /* Reads eight bytes in network byte order as a number. For an in6_addr, routes_half(a) is the upper half, and routes_half(a + 8)
