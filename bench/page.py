@@ -130,7 +130,7 @@ def installer(results):
 
 
 def lookups(results):
-    """Lookups from C."""
+    """Lookups from C; and the paragraph on threads that look up at the same time, if it was there."""
     sides = ("C library", "the crate's map", "`rte_rib`", "`rte_fib`")
     rows = []
     for addresses in dict.fromkeys(row["addresses"] for row in results.rows(TITLES[5], 1)):
@@ -138,7 +138,8 @@ def lookups(results):
         rows.append([addresses, of["index"][sides[0]], of["index, 64"][sides[0]], of["longest match"][sides[0]],
                      *(of["longest match"][side] for side in sides[1:3]), of["index"][sides[3]], of["index, 64"][sides[3]]])
     head = ["addresses", "index", "index, 64 a call", "table", "Rust crate's map", "`rte_rib`", "`rte_fib`", "`rte_fib`, 64 a call"]
-    yield "lookups", table(head, rows)
+    readers = re.search(r"^\d+ threads look up.*?\n(?=\n)", results.parts.get(TITLES[5], ""), re.M | re.S)
+    yield "lookups", table(head, rows) + (f"\n{readers[0]}" if readers else "")
     shown = ((1, "index", plot.OURS), (6, "rte_fib", plot.THEIRS), (4, "Rust crate's map", plot.THEIRS), (3, "table", plot.ALSO_OURS),
              (5, "rte_rib", plot.THEIRS))
     bars = [[(f"{row[0].partition(',')[0]}, {name}", row[at], color) for at, name, color in shown] for row in rows if "even" in row[0]]

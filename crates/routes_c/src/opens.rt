@@ -70,7 +70,7 @@ pub extern "C" fn routes_follower_close(alloc: Global, follower: &mut Handle)
 
 /// Opens a closed handle as an index of the hops that an open table has now. It is a snapshot: later changes don't reach it.
 ///
-/// Returns 0. Fails with 4 if the handle is open, else with 3 if the table is closed, and else with 2 if an allocation fails or the index
+/// Returns 0. Fails with 4 if the handle is open, and else with 3 if the table is closed. Fails with 2 if an allocation fails or the index
 /// would be too large. Then the handle is unchanged.
 #[unsafe(no_mangle)]
 pub extern "C" fn routes_index_open(alloc: Global, index: &mut Handle, table: &mut Handle) -> u32
