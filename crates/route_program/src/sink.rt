@@ -132,6 +132,8 @@ pub fn run<R: Read, W: Write, S: Sink<W>>(
     requires room { 0 < length buf.old }
     requires sink { S.can_take sink.old writer.old }
     requires reader { CanRead reader.old }
+
+    // The sink took the complete lines, up to the first one that it refused. The reads are bounded.
     ensures runs { Runs S.takes R.remaining sink.old reader.old writer.old result sink.new reader.new writer.new }
     ensures reads { reader.new.reads ≤ reader.old.reads + 2 ^ 62 }
 {

@@ -127,11 +127,17 @@ fn run_mode<R: Read, W: Write + Drop>(
     more: &Cell<bool>,
 ) -> Result<W, RunError>
     requires { CanRead reader.old }
+
+    // On success the output for all input was written.
     ensures known { IfOk result (λ w. IfSome (R.remaining reader.old.device) (λ bytes. ModeWrites mode bytes (W.contents output) (W.contents w))) }
+
+    // An error comes only at these points of the input.
     ensures read { IsErrOf result RunError.Read → ReadFault reader.old reader.new }
     ensures memory { IsErrOf result RunError.Memory → MayLackMemory R.remaining mode reader.old reader.new }
     ensures write { IsErrOf result RunError.Write → MayFailToWrite R.remaining mode reader.old reader.new }
     ensures line { IsErrOf result RunError.Line → ((mode ≡ Mode.Follow) ⊎ (mode ≡ Mode.Least)) × MeetsAnother R.remaining reader.old reader.new }
+
+    // Other errors come without a fault of the reader, and the reads are bounded.
     ensures read_well { (IsErrOf result RunError.Read → ⊥) → reader.new.faults ≡ reader.old.faults }
     ensures reads { reader.new.reads ≤ reader.old.reads + 2 ^ 62 }
 {

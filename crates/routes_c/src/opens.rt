@@ -76,8 +76,12 @@ pub extern "C" fn routes_follower_close(alloc: Global, follower: &mut Handle)
 pub extern "C" fn routes_index_open(alloc: Global, index: &mut Handle, table: &mut Handle) -> u32
     requires index { IsHandle index.old }
     requires table { IsHandle table.old }
+
+    // Both stay handles, and the second one keeps its content.
     ensures index { IsHandle index.new }
     ensures table { KeepsContent session_of table.old table.new ⊤ (λ s. ⊤) }
+
+    // The status, and the content of the index.
     ensures opens { OpensIndex (content_of index.old) (content_of index.new) (session_of table.old) result }
 {
     if index.is_open {
@@ -101,8 +105,12 @@ pub extern "C" fn routes_follower_index(
 ) -> u32
     requires index { IsHandle index.old }
     requires follower { IsHandle follower.old }
+
+    // Both stay handles, and the second one keeps its content.
     ensures index { IsHandle index.new }
     ensures follower { KeepsContent follower_of follower.old follower.new ⊤ (λ s. ⊤) }
+
+    // The status, and the content of the index.
     ensures opens { OpensIndexOf (content_of index.old) (content_of index.new) (follower_of follower.old) result }
 {
     if index.is_open {
@@ -123,8 +131,12 @@ pub extern "C" fn routes_follower_index(
 pub extern "C" fn routes_index_share(alloc: Global, index: &mut Handle, from: &mut Handle) -> u32
     requires index { IsHandle index.old }
     requires from { IsHandle from.old }
+
+    // Both stay handles, and the second one keeps its content.
     ensures index { IsHandle index.new }
     ensures from { KeepsContent index_session_of from.old from.new ⊤ (λ s. ⊤) }
+
+    // The status, and the content of the index.
     ensures opens { SharesIndex (content_of index.old) (content_of index.new) (index_session_of from.old) result }
 {
     if index.is_open {

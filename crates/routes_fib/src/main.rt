@@ -98,11 +98,17 @@ fn install_by<R: Read, W: Write + Drop>(
     output: W,
 ) -> Result<W, RunError>
     requires { CanRead reader.old }
+
+    // On success all batches were written.
     ensures known { IfOk result (λ w. IfSome (R.remaining reader.old.device) (λ bytes. AppendsInstalled (lines bytes) (W.contents output) (W.contents w))) }
+
+    // An error comes only at these points of the input.
     ensures read { IsErrOf result RunError.Read → ReadFault reader.old reader.new }
     ensures line { IsErrOf result RunError.Line → MeetsUnfitLine R.remaining reader.old reader.new }
     ensures memory { IsErrOf result RunError.Memory → (reader.new ≡ reader.old) ⊎ MeetsWantingLine R.remaining reader.old reader.new }
     ensures write { IsErrOf result RunError.Write → MeetsNote R.remaining reader.old reader.new ⊎ ReadsNotes R.remaining reader.old reader.new }
+
+    // Other errors come without a fault of the reader, and the reads are bounded.
     ensures read_well { (IsErrOf result RunError.Read → ⊥) → reader.new.faults ≡ reader.old.faults }
     ensures reads { reader.new.reads ≤ reader.old.reads + 2 ^ 62 }
 {
