@@ -1,5 +1,5 @@
 -- What an installer has done at the end of its input.
-use Rattle.std.proofs.Common.{◌≡◌, ℕ, zero, suc, ◌+◌, inl, inr, ⊎_elim, Bool, true, false, cond, List, [], ◌∷◌, ◌++◌, map, IfSome, Option, None, Some, Result, Ok, Err, refl, sym, ap, ◌∙◌, subst, append-nil, MatchOption, OnOk, arith}
+use Rattle.std.proofs.Common.{◌≡◌, ℕ, zero, suc, ◌+◌, inr, ⊎_elim, Bool, true, false, cond, List, [], ◌∷◌, ◌++◌, map, IfSome, Option, None, Some, Result, Ok, Err, refl, sym, ap, ◌∙◌, subst, append-nil, MatchOption, OnOk, arith}
 use Rattle.std.specs.Io.KnownBytes.{Appends, Consumes}
 use Rattle.std.proofs.KnownBytes.{Appends-trans, Consumes-whole}
 use Rattle.std.proofs.lemmas.Grind.{flat_map-append}

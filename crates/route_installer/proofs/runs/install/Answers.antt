@@ -4,7 +4,7 @@ use Rattle.route_installer.proofs.Installed.{install_ended, install_known, insta
 use Rattle.route_installer.proofs.runs.install.Goals as goal
 
 pub returns-in_err-installer-clause-ends : goal.returns-in_err-installer-clause-ends
-returns-in_err-installer-clause-ends g c = absurd c.in_err-installer.ensures.ok
+returns-in_err-installer-clause-ends g c = let ok = c.in_err-installer.ensures.ok in absurd (cc)
 
 pub returns-in_err-run-clause-ends : goal.returns-in_err-run-clause-ends
 returns-in_err-run-clause-ends g c =
