@@ -1,5 +1,5 @@
 -- The output of each mode for its input.
-use Rattle.std.specs.Prelude.{◌≡◌, ◌⊎◌, ⊤, ℕ, Bool, List, Option, Result}
+use Rattle.std.specs.Prelude.{◌≡◌, ◌<◌, ◌⊎◌, ⊤, ℕ, Bool, List, Option, Result, length}
 use Rattle.std.specs.Io.KnownBytes.{Appends, IsAtEnd}
 use Rattle.route_lines.specs.Bytes.{lines}
 use Rattle.route_program.specs.declared.counted.Counted.{Counted}
@@ -31,8 +31,9 @@ MayLackMemory remaining Follow from to = (to ≡ from) ⊎ HasRead remaining (λ
 MayLackMemory remaining Least from to =
     (to ≡ from) ⊎ HasRead remaining (λ bytes. MeetsWant (lines bytes)) from to ⊎ (HasRead remaining (λ bytes. AreReplies (lines bytes)) from to × IsAtEnd (remaining to.device))
 
--- at which points a run in this mode may meet a fault of its output: a leader at any reply, the others once all is read and each line is a reply line
+-- at which points a run in this mode may meet a fault of its output: a leader once it has read a line, or all; the others once all is read
+-- and each line is a reply line
 abbrev pub MayFailToWrite : {R : Type 0} → (R → Option (List ℕ)) → Mode → Counted R → Counted R → Type 0
-MayFailToWrite remaining Lead from to = ⊤
+MayFailToWrite remaining Lead from to = HasRead remaining (λ bytes. 0 < length (lines bytes)) from to ⊎ HasReadAll remaining (λ bytes. ⊤) from to
 MayFailToWrite remaining Follow from to = HasReadAll remaining (λ bytes. AreReplies (lines bytes)) from to
 MayFailToWrite remaining Least from to = HasReadAll remaining (λ bytes. AreReplies (lines bytes)) from to
