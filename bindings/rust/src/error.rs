@@ -2,7 +2,7 @@ use std::error;
 use std::fmt;
 
 /// Why a call of a table or a follower failed.
-#[derive(Clone, Copy, Debug, PartialEq, Eq)]
+#[derive(Clone, Copy, Debug, PartialEq, Eq, Hash)]
 #[non_exhaustive]
 pub enum Error {
     /// An allocation failed, an index would be too large, or too many objects share an index.
@@ -39,3 +39,27 @@ impl fmt::Display for ParseNetError {
 }
 
 impl error::Error for ParseNetError {}
+
+/// A text is not a hop: a number below 2^32 without leading zeros, or `drop`.
+#[derive(Clone, Copy, Debug, PartialEq, Eq)]
+pub struct ParseHopError;
+
+impl fmt::Display for ParseHopError {
+    fn fmt(&self, f: &mut fmt::Formatter<'_>) -> fmt::Result {
+        f.write_str("not a hop, which is a number or drop")
+    }
+}
+
+impl error::Error for ParseHopError {}
+
+/// A text is not a route, such as `10.0.0.0/8 1 100`.
+#[derive(Clone, Copy, Debug, PartialEq, Eq)]
+pub struct ParseRouteError;
+
+impl fmt::Display for ParseRouteError {
+    fn fmt(&self, f: &mut fmt::Formatter<'_>) -> fmt::Result {
+        f.write_str("not a route of the form 10.0.0.0/8 1 100")
+    }
+}
+
+impl error::Error for ParseRouteError {}
