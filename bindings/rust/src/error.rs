@@ -1,3 +1,4 @@
+use std::collections::TryReserveError;
 use std::error;
 use std::fmt;
 
@@ -27,6 +28,11 @@ impl fmt::Display for Error {
 }
 
 impl error::Error for Error {}
+
+/// The error of a result that has no room.
+pub(crate) fn no_memory(_: TryReserveError) -> Error {
+    Error::NoMemory
+}
 
 /// A text is not a network, such as `10.0.0.0/8` or `2001:db8::/32`.
 #[derive(Clone, Copy, Debug, PartialEq, Eq)]
