@@ -29,7 +29,7 @@ impl fmt::Display for Error {
 
 impl error::Error for Error {}
 
-/// The error of a result that has no room.
+/// The error of a call whose result has no room.
 pub(crate) fn no_memory(_: TryReserveError) -> Error {
     Error::NoMemory
 }
