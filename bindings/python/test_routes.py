@@ -3,16 +3,20 @@
 import copy
 import doctest
 import gc
+import inspect
 import ipaddress
 import os
 import pickle
 import random
 import re
+import signal
 import subprocess
 import sys
 import time
+import typing
 import unittest
 from concurrent.futures import ThreadPoolExecutor
+from contextlib import contextmanager
 from pathlib import Path
 from unittest import mock
 
@@ -24,6 +28,29 @@ TOP = Path(__file__).resolve().parents[2]
 EXAMPLES = TOP / "examples"
 # The random steps change these two networks, of 16 addresses each, and networks inside them.
 ROOTS = [ipaddress.ip_network("10.0.0.240/28"), ipaddress.ip_network("2001:db8:0:ffff::/124")]
+
+
+# The memory that is freed after the failure is for Python itself.
+LITTLE_MEMORY = """
+import ipaddress, re, resource
+from jolmidda import Table
+
+with Table() as table:
+    size = int(re.search("VmSize: *([0-9]+)", open("/proc/self/status").read().replace(chr(9), " "))[1]) * 1024
+    memory = bytearray(8 << 20)
+    resource.setrlimit(resource.RLIMIT_AS, (size + (24 << 20),) * 2)
+    for number in range(1 << 22):
+        net = ipaddress.IPv4Network(number)
+        try:
+            table.add(net, 1)
+        except MemoryError as error:
+            del memory
+            assert str(error) == "there is no memory", "Python's own memory ran out"
+            break
+    assert (table.count(), table.get(net[0])) == ((number, 0), None)
+    table.add(net, 1)
+    assert table.count() == (number + 1, 0)
+"""
 
 
 def order(hop):
@@ -159,7 +186,7 @@ class Turns(unittest.TestCase):
     def compare(self, draw, table, model):
         """The lists, the lookups of many addresses and an index agree with the model."""
         net = draw.choice(list(draw.choice(ROOTS).subnets(draw.randrange(5))))
-        limit = draw.randrange(6)
+        limit = draw.choice([*range(6), 2**64 - 1])
         for name in ("inside", "cover", "all", "governed"):
             self.assertEqual(getattr(table, name)(net), getattr(model, name)(net), (name, net))
         for name in ("page_from", "page_after"):
@@ -176,7 +203,8 @@ class Turns(unittest.TestCase):
         with Index(table) as index:
             self.assertEqual(index.hops(map(str, addrs)), hops)
             self.assertEqual(index.hops(addr.packed for addr in addrs), hops)
-            self.assertEqual(index.hop(addrs[0]), hops[0])
+            for form in (str, lambda addr: addr.packed, lambda addr: addr):
+                self.assertEqual([index.hop(form(addr)) for addr in addrs], hops)
         least = Model()
         for route in table.least():
             least.add(*route)
@@ -318,6 +346,71 @@ class Followers(unittest.TestCase):
                 call()
 
 
+@contextmanager
+def interrupted(library, name, handler):
+    """A signal comes right after the first call of the library's function of this name."""
+    function, signals = getattr(library, name), [signal.SIGUSR1]
+
+    def called(*arguments):
+        answer = function(*arguments)
+        if signals:
+            signal.raise_signal(signals.pop())
+        return answer
+
+    before = signal.signal(signal.SIGUSR1, lambda *_: handler())
+    try:
+        with mock.patch.object(library, name, called):
+            yield
+    finally:
+        signal.signal(signal.SIGUSR1, before)
+
+
+class Signals(unittest.TestCase):
+    """The handler of a signal uses an object between the two steps of a call: the library makes a list or a reply, and it is read."""
+
+    def test_a_list_is_made_again(self):
+        net, other = "10.0.0.0/8", "192.0.2.0/24"
+        with Table() as table, Follower() as follower:
+            for line in (f"add {net} 1", "add 10.1.0.0/16 drop", "add 2001:db8::/32 2"):
+                follow(table, follower, line)
+
+            def handler():
+                follow(table, follower, f"add {other} 9")
+                for call in (table.flat, lambda: table.inside(other), follower.flat, follower.least):
+                    call()
+                follow(table, follower, f"del {other} 9")
+
+            for library, name, call in [
+                (jolmidda._library, "cover4", lambda: table.cover(net)), (jolmidda._library, "all4", lambda: table.all(net)),
+                (jolmidda._library, "from4", lambda: table.page_from(net, 9)), (jolmidda._unlocked, "own", lambda: table.own(1)),
+                (jolmidda._unlocked, "list4", lambda: table.inside(net)), (jolmidda._unlocked, "least", table.least),
+                (jolmidda._unlocked, "governed4", lambda: table.governed(net)), (jolmidda._unlocked, "flat", table.flat_arrays),
+                (jolmidda._unlocked, "flat", table.flat), (jolmidda._unlocked, "follower_flat", follower.flat),
+                (jolmidda._unlocked, "follower_least", follower.least),
+            ]:
+                undisturbed = call()
+                with self.subTest(name), interrupted(library, f"routes_{name}", handler):
+                    self.assertEqual(call(), undisturbed)
+
+    def test_a_reply_is_lost(self):
+        with Table() as table:
+            with interrupted(jolmidda._library, "routes_line", lambda: table.line("count")):
+                with self.assertRaisesRegex(RuntimeError, "the line was carried out"):
+                    table.line("add 10.0.0.0/8 1")
+            with interrupted(jolmidda._library, "routes_line", table.flat):  # a list doesn't replace a reply
+                self.assertEqual(table.line("get 10.0.0.0/9"), "route 10.0.0.0/8 1 100\nok\n")
+
+    def test_a_table_is_closed(self):
+        for library, name, error, call in [
+            (jolmidda._library, "line", RuntimeError, lambda table: table.line("count")),
+            (jolmidda._library, "cover4", ValueError, lambda table: table.cover("10.0.0.0/8")),
+            (jolmidda._unlocked, "flat", ValueError, Table.flat),
+        ]:
+            with self.subTest(name), Table() as table, interrupted(library, f"routes_{name}", table.close):
+                with self.assertRaises(error):
+                    call(table)
+
+
 class Rules(unittest.TestCase):
     def test_arguments_out_of_range(self):
         """The message names the argument, and for a number its range."""
@@ -374,6 +467,22 @@ class Rules(unittest.TestCase):
                     with self.subTest(call=call, arguments=arguments), self.assertRaisesRegex(ValueError, message):
                         call(*arguments)
             self.assertEqual(table.count(), Count(0, 0))
+
+    def test_no_memory(self):
+        """The library's answer becomes an exception."""
+        with Table() as table, Follower() as follower:
+            for library, name, call in [
+                (jolmidda._library, "add4", lambda: table.add("10.0.0.0/8", 1)), (jolmidda._unlocked, "flat", table.flat),
+                (jolmidda._library, "cover4", lambda: table.cover("10.0.0.0/8")), (jolmidda._library, "line", lambda: table.line("count")),
+                (jolmidda._unlocked, "index_open", lambda: Index(table)), (jolmidda._library, "follower_line", lambda: follower.line("ok")),
+            ]:
+                with self.subTest(name), mock.patch.object(library, f"routes_{name}", return_value=2), self.assertRaises(MemoryError):
+                    call()
+
+    def test_little_memory(self):
+        """A process with 16 MB to go: the call that fails changes nothing."""
+        ran = subprocess.run([sys.executable, "-B", "-c", LITTLE_MEMORY], cwd=TOP / "bindings/python", stderr=subprocess.PIPE, text=True)
+        self.assertEqual((ran.returncode, ran.stderr), (0, ""))
 
     def test_other_integers(self):
         """As elsewhere in Python, an object with `__index__` is an integer."""
@@ -474,6 +583,70 @@ class Rules(unittest.TestCase):
                 with self.assertRaisesRegex(RuntimeError, "belongs to another thread"):
                     other.submit(call).result()
 
+    def test_a_later_thread_is_another_thread(self):
+        """It often has the number of the thread that made the table."""
+        for _ in range(100):
+            with ThreadPoolExecutor(1) as first:
+                table = first.submit(Table).result()
+            with ThreadPoolExecutor(1) as second, self.assertRaisesRegex(RuntimeError, "belongs to another thread"):
+                second.submit(table.count).result()
+
+    def test_objects_are_handed_over(self):
+        with Table() as table, Follower() as follower, Index(table) as index, ThreadPoolExecutor(1) as other:
+            for handle, call in ((table, table.count), (follower, follower.flat), (index, lambda: index.hop("::"))):
+                expected = call()
+                handle.hand_over()
+                self.assertEqual(other.submit(call).result(), expected)
+                for refused in (call, handle.hand_over):
+                    with self.assertRaisesRegex(RuntimeError, "belongs to another thread"):
+                        refused()
+                other.submit(handle.hand_over).result()
+                self.assertEqual(call(), expected)
+
+    def test_long_calls_release_pythons_lock(self):
+        net, addrs, wide = "10.0.0.0/8", [bytes(4)] * 4096, [bytes(16)] * 4096
+        with Table() as table, Follower() as follower, Index(table) as index:
+            for name, call in [
+                ("flat", table.flat), ("flat", table.flat_arrays), ("list4", lambda: table.inside(net)), ("own", lambda: table.own(1)),
+                ("governed6", lambda: table.governed("::/0")), ("from4", lambda: table.page_from(net, 4096)), ("least", table.least),
+                ("after6", lambda: table.page_after("::/0", 4096)), ("line", lambda: table.line("flat")), ("close", Table().close),
+                ("get4_many", lambda: table.hops(addrs)), ("get6_many", lambda: table.hops(wide)), ("index_open", lambda: Index(table)),
+                ("index_hop4_many", lambda: index.hops(addrs)), ("index_hop6_many", lambda: index.hops(wide)),
+                ("index_close", Index(table).close), ("follower_index", lambda: Index(follower)), ("follower_flat", follower.flat),
+                ("follower_flat", follower.flat_arrays), ("follower_least", follower.least), ("follower_close", Follower().close),
+            ]:
+                function = getattr(jolmidda._unlocked, f"routes_{name}")
+                with self.subTest(name), mock.patch.object(jolmidda._unlocked, f"routes_{name}", wraps=function) as called:
+                    call()
+                    called.assert_called_once()
+
+    def test_a_destructor_during_a_long_call(self):
+        """A weak reference may give a table back to its thread while another thread runs the destructor."""
+        with Table() as table, ThreadPoolExecutor(1) as other:
+            destroyed = lambda *_: other.submit(table.__del__).result() or 0
+            with mock.patch.object(jolmidda._unlocked, "routes_flat", destroyed):
+                self.assertEqual(table.flat(), [])
+            self.assertEqual(table.count(), Count(0, 0))
+            destroyed()
+            with self.assertRaisesRegex(ValueError, "closed"):
+                table.count()
+
+    def test_a_forked_child_frees_nothing(self):
+        """It must make no call if its parent has threads."""
+        handles = [Table(), Follower()]
+        handles += [Index(handles[0]), Index(handles[1]).share()]
+        with mock.patch.object(jolmidda._Handle, "_close") as close:
+            child = os.fork()
+            if not child:
+                try:
+                    handles.clear()
+                    gc.collect()
+                    os._exit(close.call_count)
+                finally:
+                    os._exit(255)
+            self.assertEqual(os.waitpid(child, 0)[1], 0)
+        handles.clear()
+
     def test_another_thread_may_be_the_last(self):
         """Then it frees the memory, as the last thread with a table does."""
         tables = [Table() for _ in range(3)]
@@ -492,7 +665,18 @@ class Packages(unittest.TestCase):
         missing = str(TOP / "bindings")
         ran = subprocess.run([sys.executable, "-B", "-c", "import jolmidda"], cwd=TOP / "bindings/python", stderr=subprocess.PIPE, text=True,
                              env={**os.environ, "ROUTES_LIB": missing})
-        self.assertRegex(ran.stderr, f"\nOSError: {re.escape(missing)}/libroutes.so: .*ROUTES_LIB")
+        self.assertRegex(ran.stderr, f"\nOSError: {re.escape(missing)}/libroutes.so.1: .*ROUTES_LIB")
+
+    def test_the_hints(self):
+        """Every class and function has hints, and Python can evaluate them."""
+        for name in jolmidda.__all__:
+            if isinstance(getattr(jolmidda, name), type):
+                typing.get_type_hints(getattr(jolmidda, name))
+        for kind in (Table, Index, Follower):
+            for name, function in inspect.getmembers(kind, inspect.isfunction):
+                with self.subTest(kind=kind, name=name):
+                    _self, *parameters = inspect.signature(function).parameters
+                    self.assertEqual({*parameters, "return"} - set(typing.get_type_hints(function)), set())
 
     def test_the_version(self):
         """It is the latest that CHANGELOG.md names."""

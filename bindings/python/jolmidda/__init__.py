@@ -18,7 +18,7 @@ flat 10.64.0.0/10 1
 flat 10.128.0.0/9 1
 ok
 
-The library is libroutes.so in the folder that the environment variable ROUTES_LIB names. Without it, the
+The library is libroutes.so.1 in the folder that the environment variable ROUTES_LIB names. Without it, the
 system's search path is used.
 """
 
@@ -32,7 +32,7 @@ import struct
 import threading
 from array import array
 from ctypes import POINTER, c_bool, c_char, c_char_p, c_size_t, c_uint8, c_uint16, c_uint32, c_uint64, c_void_p
-from typing import Final, Iterable, Literal, NamedTuple, NoReturn, Optional, Type, TypeVar, Union
+from typing import TYPE_CHECKING, Callable, Final, Iterable, List, Literal, NamedTuple, NoReturn, Optional, Tuple, Type, TypeVar, Union
 
 __all__ = [
     "Change", "Count", "DROP", "Failed", "FlatArrays", "Follower", "Full", "Index", "PREFERENCE", "Piece", "Route", "Table",
@@ -45,8 +45,14 @@ PREFERENCE: Final = 100
 """The preference that `routes lead` gives a route without one."""
 
 Address = Union[ipaddress.IPv4Address, ipaddress.IPv6Address]
+AnyAddress = Union[Address, str, bytes]
 Net = Union[ipaddress.IPv4Network, ipaddress.IPv6Network]
+AnyNet = Union[Net, str]
 Hop = Union[int, Literal["drop"]]
+if TYPE_CHECKING:
+    IntArray = array[int]
+else:
+    IntArray = array  # before Python 3.12 only type checkers know the items of an array
 
 
 class Route(NamedTuple):
@@ -78,11 +84,11 @@ class FlatArrays(NamedTuple):
     `high << 64 | low`; for IPv4 `high` is 0. `zip(*arrays)` yields the blocks one by one.
     """
 
-    version: array[int]
-    high: array[int]
-    low: array[int]
-    prefixlen: array[int]
-    hop: array[int]
+    version: IntArray
+    high: IntArray
+    low: IntArray
+    prefixlen: IntArray
+    hop: IntArray
 
 
 class Count(NamedTuple):
@@ -100,17 +106,32 @@ class Failed(Exception):
     """The follower had a fault before."""
 
 
+class _Thread(threading.local):
+    """The thread that reads `token`. No other thread ever has this token, but a later thread may have the same number."""
+
+    def __init__(self) -> None:
+        self.token = object()
+
+
+_this_thread = _Thread()
+
+_H = TypeVar("_H", bound="_Handle")
+_T = TypeVar("_T")
+
+
 class _Handle:
     """A handle of the library, and the thread that may use it."""
 
     _name = ""  # the prefix of the names of the library's calls
     _raw: ctypes.Structure
-    _thread: int
+    _thread: object  # the token of the thread; no attribute if the handle is that of the next thread that calls
+    _list: object = None  # stands for the call that made the last list; None after a close
+    _reply: object = None  # the same for the last reply
 
-    def __init__(self) -> None:
+    def __init__(self, raw: ctypes.Structure) -> None:
         if hasattr(self, "_raw"):  # __init__ ran before: free its handle
             self.close()
-        self._thread = threading.get_ident()
+        self._thread, self._process, self._running, self._raw = _this_thread.token, os.getpid(), threading.RLock(), raw
 
     def __enter__(self: _H) -> _H:
         return self
@@ -121,64 +142,114 @@ class _Handle:
     def close(self) -> None:
         """Frees the memory. A closed object stays closed."""
         self._own()
-        self._close()
+        with self._running:
+            self._close(_unlocked)
+
+    def hand_over(self) -> None:
+        """Gives the object to another thread: the one that calls it next.
+
+        The thread that calls this must have no other call running, so don't call it in a signal handler.
+        """
+        self._own()
+        del self._thread
 
     def __del__(self) -> None:
-        if hasattr(self, "_raw"):  # without it, __init__ did not run
-            self._close()  # the thread that runs this is the last one with a reference
+        if not hasattr(self, "_raw"):  # __init__ did not run
+            return
+        if self._process != os.getpid():  # this is a forked child, which must make no call if its parent has threads
+            return
+        # This may be another thread than the handle's, and that one may have got the handle back by a weak reference. If it is in a
+        # long call, the handle stays open. It is in no short call, since this call holds Python's lock.
+        if self._running.acquire(blocking=False):
+            self._close(_library)
+            self._running.release()
 
     def __reduce__(self) -> NoReturn:
         raise TypeError(f"{type(self).__name__} objects can't be copied or pickled")
 
-    def _close(self) -> None:
-        getattr(_library, f"routes_{self._name}close")(self._raw)
+    def _close(self, library: ctypes.CDLL) -> None:
+        self._list = self._reply = None
+        getattr(library, f"routes_{self._name}close")(self._raw)
 
     def _own(self) -> ctypes.Structure:
-        """The handle, if this is its thread. An index that `share` made has none before its first call."""
-        thread = threading.get_ident()
-        if vars(self).setdefault("_thread", thread) != thread:
+        """The handle, if it is that of this thread. It becomes this thread's if it is no thread's."""
+        token = _this_thread.token
+        if vars(self).setdefault("_thread", token) is not token:
             raise RuntimeError(f"this {type(self).__name__} belongs to another thread")
         return self._raw
 
-    def _call(self, name: str, addr: Address, *rest: object) -> bool:
-        """Calls the function of this name for the address's family."""
-        number = int(addr)
-        halves = (number,) if addr.version == 4 else (number >> 64, number & (1 << 64) - 1)
-        return _is_found(getattr(_library, f"routes_{self._name}{name}{addr.version}")(self._own(), *halves, *rest))
+    def _call(self, name: str, *arguments: object) -> bool:
+        """Calls the library's function of this name. Returns whether the value was found."""
+        return _is_found(getattr(_library, f"routes_{self._name}{name}")(self._own(), *arguments))
+
+    def _call_long(self, name: str, *arguments: object) -> bool:
+        """The same for a function that may take long: other threads of Python run meanwhile."""
+        with self._running:
+            return _is_found(getattr(_unlocked, f"routes_{self._name}{name}")(self._own(), *arguments))
+
+    def _call_for(self, size: int) -> Callable[..., bool]:
+        """Which of the two a function for so many addresses or routes needs."""
+        return self._call if size < _LONG else self._call_long
+
+    def _call_at(self, name: str, addr: Address, result: object) -> bool:
+        """Calls the function of this name for an address."""
+        return self._call(f"{name}{addr.version}", *_halves(addr), result)
+
+    def _listed(self, read: Callable[[], _T], call: Callable[..., bool], name: str, *arguments: object) -> _T:
+        """Makes a list and reads it, and does both again if a signal handler or a destructor replaced the list in between."""
+        while True:
+            self._own()
+            made = self._list = object()
+            call(name, *arguments)
+            items = read()
+            if self._list is made:
+                return items
 
     def _arrays(self) -> FlatArrays:
-        """Makes the flat list, and copies it in parts."""
-        _is_found(getattr(_library, f"routes_{self._name}flat")(self._own()))
+        """The flat list."""
+        return self._listed(self._read_pieces, self._call_long, "flat")
+
+    def _pieces(self) -> List[Piece]:
+        """The flat list, as objects."""
+        return [Piece(_net(version, high, low, length), hop) for version, high, low, length, hop in zip(*self._arrays())]
+
+    def _read_pieces(self) -> FlatArrays:
+        """The flat list that was made last, copied in parts."""
         read = getattr(_library, f"routes_{self._name}read_pieces")
         arrays = FlatArrays(array("B"), array("Q"), array("Q"), array("B"), array("I"))
         part = (_Piece * 1024)()
         octets = memoryview(part).cast("B")  # of 24 a piece: two numbers of 8, the hop's 4, family, length, and padding
         halves, hops = octets.cast("Q"), octets.cast("I")
         columns = octets[20::24], halves[::3], halves[1::3], octets[21::24], hops[4::6]
-        while count := read(self._raw, len(arrays.hop), part, len(part)):
+        while count := read(self._own(), len(arrays.hop), part, len(part)):
             for items, column in zip(arrays, columns):
                 items.frombytes(column[:count].tobytes())
         return arrays
 
-    def _pieces(self) -> list[Piece]:
-        """Makes the flat list, and reads it."""
-        return [Piece(_net(version, high, low, length), hop) for version, high, low, length, hop in zip(*self._arrays())]
-
-    def _read(self) -> list[Route]:
+    def _read(self) -> List[Route]:
         """The list of routes that was made last."""
-        routes: list[Route] = []
+        routes: List[Route] = []
         part = (_Route * 1024)()
-        while count := getattr(_library, f"routes_{self._name}read")(self._raw, len(routes), part, len(part)):
+        while count := getattr(_library, f"routes_{self._name}read")(self._own(), len(routes), part, len(part)):
             routes.extend(map(_route, part[:count]))
         return routes
 
-    def _least(self) -> list[Route]:
-        """Makes a least table, and reads it."""
-        _is_found(getattr(_library, f"routes_{self._name}least")(self._own()))
-        return self._read()
-
-
-_H = TypeVar("_H", bound=_Handle)
+    def _many(self, name: str, addrs: Iterable[AnyAddress]) -> List[int]:
+        """Looks up many addresses, with one call for each family among them. Each result is one number."""
+        if isinstance(addrs, (str, bytes)):
+            raise TypeError(f"addrs must be an iterable of addresses, not a single {type(addrs).__name__}")
+        packed = list(map(_packed, addrs))
+        answers = [0] * len(packed)
+        for version, size, type_, letter in ((4, 4, c_uint32, "I"), (6, 16, _Addr6, "Q")):
+            places = [place for place, addr in enumerate(packed) if len(addr) == size]
+            form = f"{len(places) * size // struct.calcsize('=' + letter)}{letter}"
+            numbers = struct.unpack(">" + form, b"".join([packed[place] for place in places]))
+            asked = (type_ * len(places)).from_buffer_copy(struct.pack("=" + form, *numbers))
+            hops = (c_uint64 * len(places))()
+            self._call_for(len(places))(f"{name}{version}_many", asked, len(places), hops, len(places))
+            for place, hop in zip(places, hops[:]):
+                answers[place] = hop
+        return answers
 
 
 class Table(_Handle):
@@ -191,47 +262,46 @@ class Table(_Handle):
     `socket.inet_pton` returns them.
 
     If a call other than `line` raises an exception, the table is unchanged. MemoryError: an allocation failed. TypeError: an argument
-    has a wrong type. ValueError: an argument is out of range, or the table is closed. RuntimeError: the call came from another thread
-    than the one that made the table. A table can't be copied or pickled.
+    has a wrong type. ValueError: an argument is out of range, or the table is closed. RuntimeError: the table belongs to another
+    thread, which made it or was the first to call it after `hand_over`. A table can't be copied or pickled.
     """
 
     def __init__(self) -> None:
-        super().__init__()
-        self._raw = _Table()
+        super().__init__(_Table())
         _is_found(_library.routes_open(self._raw))
 
-    def get(self, addr: Address | str | bytes) -> Route | None:
+    def get(self, addr: AnyAddress) -> Optional[Route]:
         """Returns the best route of the longest stored network that contains the address, or None if there is none."""
         route = _Route()
-        if self._call("get", _address(addr), route):
+        if self._call_at("get", _address(addr), route):
             return _route(route)
         return None
 
-    def hops(self, addrs: Iterable[Address | str | bytes]) -> list[Hop | None]:
+    def hops(self, addrs: Iterable[AnyAddress]) -> List[Optional[Hop]]:
         """Returns the hop of the route that `get` finds for each address, or None if it finds none.
 
         It calls the library at most twice. Addresses as bytes are fastest.
         """
-        return [None if hop == _NO_MATCH else _hop(hop) for hop in _many("routes_get{}_many", self._own(), addrs)]
+        return [None if hop == _NO_MATCH else _hop(hop) for hop in self._many("get", addrs)]
 
     def count(self) -> Count:
         """Returns the number of stored networks of each family."""
         ipv4, ipv6 = c_size_t(), c_size_t()
-        _is_found(_library.routes_count(self._own(), ipv4, ipv6))
+        self._call("count", ipv4, ipv6)
         return Count(ipv4.value, ipv6.value)
 
-    def add(self, net: Net | str, hop: Hop, preference: int = PREFERENCE) -> Change:
+    def add(self, net: AnyNet, hop: Hop, preference: int = PREFERENCE) -> Change:
         """Adds a route. If the network has this hop already, its preference changes.
 
         Raises Full if the network has routes by eight other hops.
         """
         return self._change("add", net, hop, _whole("preference", preference, (1 << 16) - 1))
 
-    def remove(self, net: Net | str, hop: Hop) -> Change:
+    def remove(self, net: AnyNet, hop: Hop) -> Change:
         """Removes the network's route by this hop. Raises KeyError if there is none."""
         return self._change("del", net, hop)
 
-    def flat(self) -> list[Piece]:
+    def flat(self) -> List[Piece]:
         """Returns the fewest one-hop blocks that cover all addresses with a hop, in ascending order."""
         return self._pieces()
 
@@ -239,69 +309,77 @@ class Table(_Handle):
         """Returns the blocks of `flat` as arrays, which is several times as fast for a long list."""
         return self._arrays()
 
-    def inside(self, net: Net | str) -> list[Route]:
+    def inside(self, net: AnyNet) -> List[Route]:
         """Returns the best routes of the stored networks inside this one, itself included, in ascending order."""
-        return self._list("list", net)
+        return self._routes(self._call_long, "list", net)
 
-    def cover(self, net: Net | str) -> list[Route]:
+    def cover(self, net: AnyNet) -> List[Route]:
         """Returns the best routes of the stored networks that contain this one, itself included, shortest first."""
-        return self._list("cover", net)
+        return self._routes(self._call, "cover", net)
 
-    def page_from(self, net: Net | str, limit: int) -> list[Route]:
+    def page_from(self, net: AnyNet, limit: int) -> List[Route]:
         """Returns at most `limit` best routes of the family's stored networks from this one on, in ascending order."""
-        return self._list("from", net, _whole("limit", limit, _SIZE_MAX))
+        return self._page("from", net, limit)
 
-    def page_after(self, net: Net | str, limit: int) -> list[Route]:
+    def page_after(self, net: AnyNet, limit: int) -> List[Route]:
         """Returns the same for the networks after this one, which need not be stored: the page after one that ends with it."""
-        return self._list("after", net, _whole("limit", limit, _SIZE_MAX))
+        return self._page("after", net, limit)
 
-    def all(self, net: Net | str) -> list[Route]:
+    def all(self, net: AnyNet) -> List[Route]:
         """Returns all routes of exactly this network, best first."""
-        return self._list("all", net)
+        return self._routes(self._call, "all", net)
 
-    def governed(self, net: Net | str) -> list[Route]:
+    def governed(self, net: AnyNet) -> List[Route]:
         """Returns the maximal blocks of the addresses that the network governs, each with their hop, or DROP for none.
 
         A network governs those of its addresses that no stored network strictly inside it contains. If a change of the network
         returned two different hops, these are the addresses whose hop changed.
         """
-        return self._list("governed", net)
+        return self._routes(self._call_long, "governed", net)
 
-    def own(self, hop: int) -> list[Route]:
+    def own(self, hop: int) -> List[Route]:
         """Returns the blocks of `flat` with this hop, in ascending order."""
-        _is_found(_library.routes_own(self._own(), _number_of(hop)))
-        return self._read()
+        return self._listed(self._read, self._call_long, "own", _number_of(hop))
 
-    def least(self) -> list[Route]:
+    def least(self) -> List[Route]:
         """Returns the routes of a smallest table with the same hop at each address."""
-        return self._least()
+        return self._listed(self._read, self._call_long, "least")
 
-    def line(self, line: str | bytes) -> str:
+    def line(self, line: Union[str, bytes]) -> str:
         """Returns the reply of `routes lead` to a line of its input, given without its line end.
 
-        Raises MemoryError if an allocation for the reply fails. The line was carried out even so, and the table is the one after it.
+        Raises MemoryError if an allocation for the reply fails. Raises RuntimeError if a signal handler or a destructor gives the table
+        another line, or closes it, before the reply is read. The line was carried out even so, and the table is the one after it.
         """
         line = _line(line)
-        _is_found(_library.routes_line(self._own(), line, len(line)))
+        self._own()
+        given = self._reply = object()
+        call = self._call_long if line.startswith(_LONG_LINES) else self._call
+        call("line", line, len(line))
         reply = bytearray()
         out = ctypes.create_string_buffer(4096)
-        while count := _library.routes_reply(self._raw, len(reply), out, len(out)):
+        while count := _library.routes_reply(self._own(), len(reply), out, len(out)):
             reply += out[:count]
             if count < len(out):
                 break
+        if self._reply is not given:
+            raise RuntimeError("the line was carried out, but a signal handler or a destructor may have replaced its reply")
         return reply.decode("ascii")
 
-    def _change(self, name: str, net: Net | str, hop: Hop, *preference: int) -> Change:
+    def _change(self, name: str, net: AnyNet, hop: Hop, *preference: int) -> Change:
         net = _network(net)
         change = _Change()
-        if not self._call(name, net.network_address, net.prefixlen, _raw_hop(hop), *preference, change):
+        if not self._call(f"{name}{net.version}", *_halves(net.network_address), net.prefixlen, _raw_hop(hop), *preference, change):
             raise KeyError((net, hop))
         return Change(_number(change.before), _number(change.after))
 
-    def _list(self, name: str, net: Net | str, *limit: int) -> list[Route]:
+    def _page(self, name: str, net: AnyNet, limit: int) -> List[Route]:
+        limit = _whole("limit", limit, _SIZE_MAX)
+        return self._routes(self._call_for(limit), name, net, limit)
+
+    def _routes(self, call: Callable[..., bool], name: str, net: AnyNet, *limit: int) -> List[Route]:
         net = _network(net)
-        self._call(name, net.network_address, net.prefixlen, *limit)
-        return self._read()
+        return self._listed(self._read, call, f"{name}{net.version}", *_halves(net.network_address), net.prefixlen, *limit)
 
 
 class Index(_Handle):
@@ -313,21 +391,23 @@ class Index(_Handle):
 
     _name = "index_"
 
-    def __init__(self, source: Table | Follower) -> None:
-        super().__init__()
+    def __init__(self, source: Union[Table, Follower]) -> None:
+        super().__init__(_Index())
         if not isinstance(source, (Table, Follower)):
             raise TypeError(f"source must be a Table or a Follower, not {type(source).__name__}")
-        self._raw = _Index()
-        opens = _library.routes_follower_index if isinstance(source, Follower) else _library.routes_index_open
-        _is_found(opens(self._raw, source._own()))
+        opens = _unlocked.routes_follower_index if isinstance(source, Follower) else _unlocked.routes_index_open
+        with source._running:
+            _is_found(opens(self._raw, source._own()))
 
-    def hop(self, addr: Address | str | bytes) -> int | None:
+    def hop(self, addr: AnyAddress) -> Optional[int]:
         """Returns the hop of the address, or None if it had no route or a null route."""
-        return self.hops([addr])[0]
+        hop = c_uint64()
+        self._call_at("hop", _address(addr), hop)
+        return _number(hop.value)
 
-    def hops(self, addrs: Iterable[Address | str | bytes]) -> list[int | None]:
+    def hops(self, addrs: Iterable[AnyAddress]) -> List[Optional[int]]:
         """Returns the hops of the addresses. It calls the library at most twice, and addresses as bytes are fastest."""
-        return list(map(_number, _many("routes_index_hop{}_many", self._own(), addrs)))
+        return list(map(_number, self._many("hop", addrs)))
 
     def share(self) -> Index:
         """Returns another object of the same snapshot, for one other thread: the one that calls it first. Nothing is copied.
@@ -335,8 +415,9 @@ class Index(_Handle):
         `hops` of many addresses releases Python's lock, so threads that have an object each look up addresses at the same time.
         """
         index = Index.__new__(Index)
-        index._raw = _Index()
+        _Handle.__init__(index, _Index())
         _is_found(_library.routes_index_share(index._raw, self._own()))
+        index.hand_over()
         return index
 
 
@@ -358,24 +439,23 @@ class Follower(_Handle):
     _name = "follower_"
 
     def __init__(self) -> None:
-        super().__init__()
-        self._raw = _Follower()
+        super().__init__(_Follower())
         _is_found(_library.routes_follower_open(self._raw))
 
-    def line(self, line: str | bytes) -> None:
+    def line(self, line: Union[str, bytes]) -> None:
         """Reads a line of a reply, given without its line end.
 
         Raises ValueError if it is not a reply line, and MemoryError if an allocation for a change fails: both are faults.
         """
         line = _line(line)
-        _is_found(_library.routes_follower_line(self._own(), line, len(line)))
+        self._call("line", line, len(line))
 
-    def hop(self, addr: Address | str | bytes) -> int | None:
+    def hop(self, addr: AnyAddress) -> Optional[int]:
         """Returns the hop of the address, or None if it has none."""
         hop = c_uint32()
-        return hop.value if self._call("get", _address(addr), hop) else None
+        return hop.value if self._call_at("get", _address(addr), hop) else None
 
-    def flat(self) -> list[Piece]:
+    def flat(self) -> List[Piece]:
         """Returns the fewest one-hop blocks that cover all addresses with a hop, in ascending order."""
         return self._pieces()
 
@@ -383,9 +463,9 @@ class Follower(_Handle):
         """Returns the blocks of `flat` as arrays, which is several times as fast for a long list."""
         return self._arrays()
 
-    def least(self) -> list[Route]:
+    def least(self) -> List[Route]:
         """Returns the routes of a smallest table with the same hop at each address."""
-        return self._least()
+        return self._listed(self._read, self._call_long, "least")
 
 
 _DROP = 1 << 32
@@ -423,11 +503,10 @@ class _Piece(ctypes.Structure):
 
 def _load(kind: Type[ctypes.CDLL]) -> ctypes.CDLL:
     """Loads the library, with the signatures of its header."""
-    folder = os.environ.get("ROUTES_LIB")
     try:
-        library = kind(os.path.join(folder, "libroutes.so") if folder else "libroutes.so.1")
+        library = kind(os.path.join(os.environ.get("ROUTES_LIB", ""), "libroutes.so.1"))
     except OSError as error:
-        raise OSError(f"{error} (the environment variable ROUTES_LIB names the folder of libroutes.so)") from None
+        raise OSError(f"{error} (the environment variable ROUTES_LIB names the folder of libroutes.so.1)") from None
     table, route, change, piece = POINTER(_Table), POINTER(_Route), POINTER(_Change), POINTER(_Piece)
     index, addrs4, addrs6, hops, size = POINTER(_Index), POINTER(c_uint32), POINTER(_Addr6), POINTER(c_uint64), POINTER(c_size_t)
     net4, net6 = (c_uint32, c_uint8), (c_uint64, c_uint64, c_uint8)
@@ -456,6 +535,8 @@ def _load(kind: Type[ctypes.CDLL]) -> ctypes.CDLL:
         ("index_open", c_uint32, index, table),
         ("index_share", c_uint32, index, index),
         ("index_close", None, index),
+        ("index_hop4", c_uint32, index, c_uint32, hops),
+        ("index_hop6", c_uint32, index, c_uint64, c_uint64, hops),
         ("index_hop4_many", c_uint32, index, addrs4, c_size_t, hops, c_size_t),
         ("index_hop6_many", c_uint32, index, addrs6, c_size_t, hops, c_size_t),
         ("follower_open", c_uint32, follower),
@@ -483,7 +564,10 @@ _unlocked = _load(ctypes.CDLL)
 """The calls release Python's lock while they run: for long calls, since taking the lock again may take milliseconds."""
 
 _LONG = 4096
-"""So many addresses are a long call."""
+"""So many addresses or routes are a long call."""
+
+_LONG_LINES = b"flat", b"list ", b"own "
+"""The lines whose replies grow with the table are long calls. The others come in large numbers."""
 
 
 def _is_found(answer: int) -> bool:
@@ -503,33 +587,14 @@ def _is_found(answer: int) -> bool:
     raise AssertionError(f"the library answered {answer}, which its header does not allow here")
 
 
-def _many(name: str, raw: _Table | _Index, addrs: Iterable[Address | str | bytes]) -> list[int]:
-    """Looks up many addresses, with one call for each family among them. Each result is one number."""
-    if isinstance(addrs, (str, bytes)):
-        raise TypeError(f"addrs must be an iterable of addresses, not a single {type(addrs).__name__}")
-    packed = list(map(_packed, addrs))
-    answers = [0] * len(packed)
-    for version, size, type_, letter in ((4, 4, c_uint32, "I"), (6, 16, _Addr6, "Q")):
-        places = [place for place, addr in enumerate(packed) if len(addr) == size]
-        form = f"{len(places) * size // struct.calcsize('=' + letter)}{letter}"
-        numbers = struct.unpack(">" + form, b"".join([packed[place] for place in places]))
-        asked = (type_ * len(places)).from_buffer_copy(struct.pack("=" + form, *numbers))
-        hops = (c_uint64 * len(places))()
-        library = _library if len(places) < _LONG else _unlocked
-        _is_found(getattr(library, name.format(version))(raw, asked, len(places), hops, len(places)))
-        for place, hop in zip(places, hops[:]):
-            answers[place] = hop
-    return answers
-
-
-def _packed(addr: Address | str | bytes) -> bytes:
+def _packed(addr: AnyAddress) -> bytes:
     """Returns the bytes of the address, in network order."""
     if isinstance(addr, bytes) and len(addr) in (4, 16):
         return addr
     return _address(addr).packed
 
 
-def _address(addr: Address | str | bytes) -> Address:
+def _address(addr: AnyAddress) -> Address:
     """Returns the address. (`ip_address` would print an address object, and parse it again.)"""
     if isinstance(addr, (str, bytes)):
         addr = ipaddress.ip_address(addr)
@@ -539,7 +604,13 @@ def _address(addr: Address | str | bytes) -> Address:
     return addr
 
 
-def _network(net: Net | str) -> Net:
+def _halves(addr: Address) -> Tuple[int, ...]:
+    """Returns the numbers of an address, as calls of the library take them."""
+    number = int(addr)
+    return (number,) if addr.version == 4 else (number >> 64, number & (1 << 64) - 1)
+
+
+def _network(net: AnyNet) -> Net:
     """Returns the network, without host bits."""
     if isinstance(net, str):
         _has_no_zone("a network", net, "%" in net)
@@ -556,7 +627,7 @@ def _has_no_zone(name: str, value: object, zone: object) -> None:
         raise ValueError(f"{name} must have no zone, as {str(value)!r} has")
 
 
-def _line(line: str | bytes) -> bytes:
+def _line(line: Union[str, bytes]) -> bytes:
     if isinstance(line, str):
         return line.encode()
     if isinstance(line, bytes):
@@ -602,5 +673,5 @@ def _number_of(hop: int, kinds: str = "an int") -> int:
     return _whole("hop", hop, (1 << 32) - 1, kinds)
 
 
-def _number(hop: int) -> int | None:
+def _number(hop: int) -> Optional[int]:
     return None if hop == _DROP else hop

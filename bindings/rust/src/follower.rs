@@ -1,5 +1,5 @@
 use crate::lists::{pieces, routes};
-use crate::table::{check, halves};
+use crate::table::{boxed, check, halves};
 use crate::{raw, Error, Index, Piece, Route};
 use std::cell::UnsafeCell;
 use std::fmt;
@@ -44,7 +44,7 @@ impl Follower {
     /// # Errors
     /// `NoMemory`.
     pub fn new() -> Result<Follower, Error> {
-        let raw = Box::new(UnsafeCell::new(raw::Follower::CLOSED));
+        let raw = boxed(raw::Follower::CLOSED)?;
         let follower = Follower { raw };
         // SAFETY: the follower is closed, and ours alone.
         check(unsafe { raw::routes_follower_open(follower.raw.get()) })?;
@@ -92,9 +92,9 @@ impl Follower {
         // SAFETY: the follower is as `raw` says.
         check(unsafe { raw::routes_follower_flat(self.raw.get()) })?;
         // SAFETY: the follower is as `raw` says, and `part` is a slice.
-        Ok(pieces(|from, part| unsafe {
+        pieces(|from, part| unsafe {
             raw::routes_follower_read_pieces(self.raw.get(), from, part.as_mut_ptr(), part.len())
-        }))
+        })
     }
 
     /// Returns the routes of a smallest table with the same hop at each address.
@@ -105,9 +105,9 @@ impl Follower {
         // SAFETY: the follower is as `raw` says.
         check(unsafe { raw::routes_follower_least(self.raw.get()) })?;
         // SAFETY: the follower is as `raw` says, and `part` is a slice.
-        Ok(routes(|from, part| unsafe {
+        routes(|from, part| unsafe {
             raw::routes_follower_read(self.raw.get(), from, part.as_mut_ptr(), part.len())
-        }))
+        })
     }
 
     /// Makes an index of the hops that the follower has now: a snapshot, which later lines don't

@@ -1,5 +1,5 @@
 use crate::many::answers;
-use crate::table::{check, halves, number};
+use crate::table::{boxed, check, found, halves, number};
 use crate::{raw, Error, Table};
 use std::cell::UnsafeCell;
 use std::fmt;
@@ -45,7 +45,7 @@ impl Index {
 
     /// Opens an index with a call of the library on a closed one.
     pub(crate) fn opened(open: impl FnOnce(*mut raw::Index) -> u32) -> Result<Index, Error> {
-        let raw = Box::new(UnsafeCell::new(raw::Index::CLOSED));
+        let raw = boxed(raw::Index::CLOSED)?;
         let index = Index { raw };
         check(open(index.raw.get()))?;
         Ok(index)
@@ -74,38 +74,29 @@ impl Index {
                 }
             }
         };
-        check(code).expect("a look-up takes no memory");
+        found(code);
         number(hop)
     }
 
     /// Returns the hops of the addresses, with two calls of the library.
-    pub fn hops(&self, addrs: &[IpAddr]) -> Vec<Option<u32>> {
+    ///
+    /// # Errors
+    /// `NoMemory`.
+    pub fn hops(&self, addrs: &[IpAddr]) -> Result<Vec<Option<u32>>, Error> {
         let index = self.raw.get();
         // SAFETY: the index is as `raw` says, and the slices are ours.
-        let hops = answers(
+        answers(
             addrs,
+            number,
             |addrs, hops| unsafe {
                 let (from, to) = (addrs.as_ptr(), hops.as_mut_ptr());
-                check(raw::routes_index_hop4_many(
-                    index,
-                    from,
-                    addrs.len(),
-                    to,
-                    hops.len(),
-                ))
+                raw::routes_index_hop4_many(index, from, addrs.len(), to, hops.len())
             },
             |addrs, hops| unsafe {
                 let (from, to) = (addrs.as_ptr(), hops.as_mut_ptr());
-                check(raw::routes_index_hop6_many(
-                    index,
-                    from,
-                    addrs.len(),
-                    to,
-                    hops.len(),
-                ))
+                raw::routes_index_hop6_many(index, from, addrs.len(), to, hops.len())
             },
-        );
-        hops.into_iter().map(number).collect()
+        )
     }
 }
 

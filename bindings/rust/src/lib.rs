@@ -43,7 +43,7 @@ mod raw;
 mod route;
 mod table;
 
-pub use error::{Error, ParseNetError};
+pub use error::{Error, ParseHopError, ParseNetError, ParseRouteError};
 pub use follower::Follower;
 pub use index::Index;
 pub use net::Net;

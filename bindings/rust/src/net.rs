@@ -53,6 +53,14 @@ impl fmt::Display for Net {
     }
 }
 
+impl From<IpAddr> for Net {
+    /// The network of just this address.
+    fn from(addr: IpAddr) -> Net {
+        let len = if addr.is_ipv4() { 32 } else { 128 };
+        Net { addr, len }
+    }
+}
+
 impl FromStr for Net {
     type Err = ParseNetError;
 

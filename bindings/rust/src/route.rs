@@ -1,5 +1,6 @@
-use crate::Net;
+use crate::{Net, ParseHopError, ParseRouteError};
 use std::fmt;
+use std::str::FromStr;
 
 /// The preference that `routes lead` gives a route without one.
 pub const PREFERENCE: u16 = 100;
@@ -23,6 +24,25 @@ impl fmt::Display for Hop {
     }
 }
 
+impl From<u32> for Hop {
+    fn from(number: u32) -> Hop {
+        Hop::Number(number)
+    }
+}
+
+impl FromStr for Hop {
+    type Err = ParseHopError;
+
+    /// Reads just the texts that `to_string` returns.
+    fn from_str(text: &str) -> Result<Hop, ParseHopError> {
+        let hop = match text {
+            "drop" => Hop::Drop,
+            _ => Hop::Number(text.parse().map_err(|_| ParseHopError)?),
+        };
+        printed(hop, text).ok_or(ParseHopError)
+    }
+}
+
 /// The best route of a network.
 #[derive(Clone, Copy, Debug, PartialEq, Eq, Hash)]
 pub struct Route {
@@ -38,6 +58,30 @@ impl fmt::Display for Route {
     fn fmt(&self, f: &mut fmt::Formatter<'_>) -> fmt::Result {
         write!(f, "{} {} {}", self.net, self.hop, self.preference)
     }
+}
+
+impl FromStr for Route {
+    type Err = ParseRouteError;
+
+    /// Reads just the texts that `to_string` returns.
+    fn from_str(text: &str) -> Result<Route, ParseRouteError> {
+        let read = || {
+            let (net, rest) = text.split_once(' ')?;
+            let (hop, preference) = rest.split_once(' ')?;
+            let route = Route {
+                net: net.parse().ok()?,
+                hop: hop.parse().ok()?,
+                preference: preference.parse().ok()?,
+            };
+            printed(route, text)
+        };
+        read().ok_or(ParseRouteError)
+    }
+}
+
+/// The value, if this is the text that it is printed as.
+fn printed<T: ToString>(value: T, text: &str) -> Option<T> {
+    (value.to_string() == text).then_some(value)
 }
 
 /// The hop before and after a change, for the addresses of the network that no longer stored
@@ -66,4 +110,10 @@ pub struct Piece {
     pub net: Net,
     /// The hop.
     pub hop: u32,
+}
+
+impl fmt::Display for Piece {
+    fn fmt(&self, f: &mut fmt::Formatter<'_>) -> fmt::Result {
+        write!(f, "{} {}", self.net, self.hop)
+    }
 }

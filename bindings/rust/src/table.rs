@@ -1,3 +1,4 @@
+use crate::error::no_memory;
 use crate::lists::{pieces, routes};
 use crate::many::answers;
 use crate::{raw, Change, Count, Error, Hop, Net, Piece, Route};
@@ -35,7 +36,7 @@ impl Table {
     /// # Errors
     /// `NoMemory`.
     pub fn new() -> Result<Table, Error> {
-        let raw = Box::new(UnsafeCell::new(raw::Table::CLOSED));
+        let raw = boxed(raw::Table::CLOSED)?;
         let table = Table { raw };
         // SAFETY: the table is closed, and ours alone.
         check(unsafe { raw::routes_open(table.raw.get()) })?;
@@ -63,34 +64,24 @@ impl Table {
     /// none.
     ///
     /// It calls the library at most twice.
-    pub fn hops(&self, addrs: &[IpAddr]) -> Vec<Option<Hop>> {
+    ///
+    /// # Errors
+    /// `NoMemory`.
+    pub fn hops(&self, addrs: &[IpAddr]) -> Result<Vec<Option<Hop>>, Error> {
         let table = self.raw.get();
         // SAFETY: the table is as `raw` says, and the slices are ours.
-        let hops = answers(
+        answers(
             addrs,
+            |found| (found != raw::NO_MATCH).then(|| hop(found)),
             |addrs, hops| unsafe {
                 let (from, to) = (addrs.as_ptr(), hops.as_mut_ptr());
-                check(raw::routes_get4_many(
-                    table,
-                    from,
-                    addrs.len(),
-                    to,
-                    hops.len(),
-                ))
+                raw::routes_get4_many(table, from, addrs.len(), to, hops.len())
             },
             |addrs, hops| unsafe {
                 let (from, to) = (addrs.as_ptr(), hops.as_mut_ptr());
-                check(raw::routes_get6_many(
-                    table,
-                    from,
-                    addrs.len(),
-                    to,
-                    hops.len(),
-                ))
+                raw::routes_get6_many(table, from, addrs.len(), to, hops.len())
             },
-        );
-        let shown = |found| (found != raw::NO_MATCH).then(|| hop(found));
-        hops.into_iter().map(shown).collect()
+        )
     }
 
     /// Returns the number of stored networks of each family.
@@ -151,9 +142,9 @@ impl Table {
         // SAFETY: the table is as `raw` says.
         check(unsafe { raw::routes_flat(self.raw.get()) })?;
         // SAFETY: the table is as `raw` says, and `part` is a slice.
-        Ok(pieces(|from, part| unsafe {
+        pieces(|from, part| unsafe {
             raw::routes_read_pieces(self.raw.get(), from, part.as_mut_ptr(), part.len())
-        }))
+        })
     }
 
     /// Returns the best routes of the stored networks inside this one, itself included, in
@@ -220,7 +211,7 @@ impl Table {
     pub fn own(&self, hop: u32) -> Result<Vec<Route>, Error> {
         // SAFETY: the table is as `raw` says.
         check(unsafe { raw::routes_own(self.raw.get(), hop) })?;
-        Ok(self.read())
+        self.read()
     }
 
     /// Returns the routes of a smallest table with the same hop at each address.
@@ -230,7 +221,7 @@ impl Table {
     pub fn least(&self) -> Result<Vec<Route>, Error> {
         // SAFETY: the table is as `raw` says.
         check(unsafe { raw::routes_least(self.raw.get()) })?;
-        Ok(self.read())
+        self.read()
     }
 
     fn listed(&self, net: Net, list4: List4, list6: List6) -> Result<Vec<Route>, Error> {
@@ -245,7 +236,7 @@ impl Table {
                 }
             }
         })?;
-        Ok(self.read())
+        self.read()
     }
 
     fn page(
@@ -266,11 +257,11 @@ impl Table {
                 }
             }
         })?;
-        Ok(self.read())
+        self.read()
     }
 
     /// The list of routes that was made last.
-    fn read(&self) -> Vec<Route> {
+    fn read(&self) -> Result<Vec<Route>, Error> {
         // SAFETY: the table is as `raw` says, and `part` is a slice.
         routes(|from, part| unsafe {
             raw::routes_read(self.raw.get(), from, part.as_mut_ptr(), part.len())
@@ -298,6 +289,7 @@ impl Table {
             if count == 0 {
                 return Ok(reply);
             }
+            reply.try_reserve(count).map_err(no_memory)?;
             reply.extend(out[..count].iter().map(|&byte| char::from(byte)));
         }
     }
@@ -338,6 +330,16 @@ impl From<raw::Change> for Change {
             after: number(change.after),
         }
     }
+}
+
+/// Allocates a handle. `Box::new` would end the program without memory.
+pub(crate) fn boxed<T>(handle: T) -> Result<Box<UnsafeCell<T>>, Error> {
+    let mut one = Vec::new();
+    one.try_reserve_exact(1).map_err(no_memory)?;
+    one.push(UnsafeCell::new(handle));
+    let slice = Box::into_raw(one.into_boxed_slice());
+    // SAFETY: a boxed slice of one item has the layout of the boxed item.
+    Ok(unsafe { Box::from_raw(slice.cast()) })
 }
 
 /// Converts the result of a call on an open handle, and on a network with a valid length.
