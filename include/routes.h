@@ -11,8 +11,8 @@
  *      call fails. No two pointers of a call may overlap.
  *   3. Make one call at a time on a table, an index or a follower, lookups included. A call that takes two of them is a call on
  *      both. Any thread may make a call after the previous one has returned, if a lock, the start or join of a thread, or a
- *      sequentially consistent atomic orders the two. The proofs do not cover acquire and release. Calls on different handles
- *      may run at the same time, also on handles that share one index (routes_index_share).
+ *      sequentially consistent atomic orders the two. Calls on different handles may run at the same time, also on handles that
+ *      share one index (routes_index_share).
  *   4. malloc, realloc and free belong to one allocator on all threads, as those of the C library do: memory that one thread
  *      allocated may be freed by another. Make no call in a signal handler, or in the forked child of a process with threads.
  *
