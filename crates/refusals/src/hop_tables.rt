@@ -1,7 +1,7 @@
 //! The calls of tables with one route for each network.
 use crate::fault::{Fault, made};
 use crate::nets::network;
-use crate::show::{begin, end, ended, ended_list, line, lines};
+use crate::show::{begin, end, ended, ended_list, ended_with, line, lines};
 use crate::subject::Subject;
 use crate::tables::{ROUTES, change};
 use ipnet::IpNet;
@@ -17,6 +17,7 @@ pub enum HopTableCall {
     Least,
     Updates,
     CarryOut,
+    CarryOutThree,
     Free,
 }
 
@@ -61,6 +62,7 @@ impl Subject for HopTable {
                     hop: Hop::Number(9),
                 }])
             }),
+            HopTableCall::CarryOutThree => carry_out_three(rt, self),
             HopTableCall::Free => free(rt, self),
         }
     }
@@ -92,6 +94,24 @@ fn updates(rt: &HostRuntime, table: &HopTable) -> Result<(), Fault> {
     ];
     begin(rt);
     ended_list(rt, table.updates(&changes));
+    Ok(())
+}
+
+/// Three installs of networks that no route contains.
+fn carry_out_three(rt: &HostRuntime, table: &mut HopTable) -> Result<(), Fault> {
+    let hop = Hop::Number(9);
+    let nets = [
+        network("192.0.2.0/24")?,
+        network("198.51.100.0/24")?,
+        network("3fff::/20")?,
+    ];
+    let operations = [
+        Operation::Install { net: nets[0], hop },
+        Operation::Install { net: nets[1], hop },
+        Operation::Install { net: nets[2], hop },
+    ];
+    begin(rt);
+    ended_with(rt, table.carry_out(&operations), "changed");
     Ok(())
 }
 

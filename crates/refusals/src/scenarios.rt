@@ -27,7 +27,7 @@ pub enum Call {
 }
 
 /// The names and their calls.
-static SCENARIOS: [(&str, Call); 89] = [
+static SCENARIOS: [(&str, Call); 90] = [
     ("aggregate-ipv4", Net(NetCall::AggregateIpv4)),
     ("aggregate-ipv6", Net(NetCall::AggregateIpv6)),
     ("aggregate-mixed", Net(NetCall::AggregateMixed)),
@@ -108,6 +108,10 @@ static SCENARIOS: [(&str, Call); 89] = [
     ("hop-table-least", HopTable(HopTableCall::Least)),
     ("hop-table-updates", HopTable(HopTableCall::Updates)),
     ("hop-table-carry-out", HopTable(HopTableCall::CarryOut)),
+    (
+        "hop-table-carry-out-three",
+        HopTable(HopTableCall::CarryOutThree),
+    ),
     ("free-hop-table", HopTable(HopTableCall::Free)),
     ("lead", Feed(FeedCall::Lead)),
     ("follow", Feed(FeedCall::Follow)),
