@@ -121,11 +121,17 @@ def networks_of(results, feed):
     return f"{int(lines.replace(',', '')) - 1:,}" if lines != "-" else lines
 
 
+def quotient(upper, lower):
+    """One printed number over another, with two digits after the point."""
+    return f"{int(upper.replace(',', '')) / int(lower.replace(',', '')):.2f}"
+
+
 def installer(results):
     """The installer, on each of its feeds; and the paragraph on the changes of the real feed, if it was there."""
-    rows = [[row[head] for head in ("feed", "batches", "operations", "largest batch", "kept s", "follow s", "at once s")] for row in results.rows(TITLES[3])]
+    rows = [[row["feed"], row["batches"], row["operations"], quotient(row["operations"], row["batches"]),
+             *(row[head] for head in ("largest batch", "kept s", "kept MB", "follow s", "at once s"))] for row in results.rows(TITLES[3])]
     changed = re.search(r"^If all networks.*?\n(?=\n)", results.parts.get(TITLES[3], ""), re.M | re.S)
-    head = ["feed", "batches", "operations", "largest batch", "CPU s", "`follow` of the same log", "one batch: CPU s"]
+    head = ["feed", "batches", "operations", "operations a batch", "largest batch", "CPU s", "MB", "`follow` of the same log", "one batch: CPU s"]
     yield "installer", table(head, rows) + (f"\n{changed[0]}" if changed else "")
 
 

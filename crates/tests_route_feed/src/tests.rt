@@ -3,6 +3,7 @@ mod cutter;
 mod devices;
 mod followers;
 mod installing;
+mod pieces;
 mod rows;
 mod runs;
 mod scripted;
