@@ -2,10 +2,12 @@
 use crate::fault::{Fault, made};
 use crate::show::{answer, begin, bytes, end, ended, ended_with, line, lines, part};
 use ipnet::{IpAddr, Ipv4Addr};
-use route_feed::{Counted, Follower, follow, lead, shorten};
+use route_feed::{Counted, Follower, follow, lead, lead_line, shorten};
 use route_installer::install;
 use route_lines::{Command, FibUpdate, Line, LineCutter, Reply};
+use route_table::RouteTable;
 use std::io::Stdin;
+use std::str::from_utf8;
 
 /// The most bytes of output that are kept.
 const OUTPUT: usize = 1 << 16;
@@ -60,6 +62,25 @@ fn run_over(rt: &HostRuntime, call: FeedCall) -> Result<(), Fault> {
     show_reads(rt, &reader);
     bytes(rt, writer.into_inner().as_slice());
     Ok(())
+}
+
+/// A line for a table, and the reply. The output goes to memory that was allocated before.
+pub fn lead_one(rt: &HostRuntime, table: &mut RouteTable, text: &str) -> Result<(), Fault> {
+    let mut writer = Counted::new(made(Vec::with_capacity(rt.alloc(), OUTPUT))?);
+    begin(rt);
+    let outcome = lead_line(table, text.as_bytes(), &mut writer);
+    let reply = writer.into_inner();
+    if ended(rt, outcome).is_some() {
+        answer_lines(rt, reply.as_slice());
+    }
+    Ok(())
+}
+
+fn answer_lines(rt: &HostRuntime, reply: &[u8]) {
+    let text = from_utf8(reply).unwrap_or("no text");
+    for line in text.split_terminator('\n') {
+        answer(rt, &line);
+    }
 }
 
 fn show_reads(rt: &HostRuntime, reader: &Counted<Stdin>) {

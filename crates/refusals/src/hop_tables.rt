@@ -85,15 +85,32 @@ fn answer_table(rt: &HostRuntime, outcome: Result<HopTable, Refused>) {
     }
 }
 
-/// The operations of changes in both families, one of them inside another.
+/// Changes in both families, some inside others. The quarters of 10.0.0.0/10 get four hops, and the other half of 10.0.0.0/9 has a route
+/// of its own, so the computation copies a list of four hops.
+const CHANGES: [(&str, Hop); 8] = [
+    ("10.0.0.0/12", Hop::Number(4)),
+    ("10.16.0.0/12", Hop::Number(5)),
+    ("10.32.0.0/12", Hop::Number(6)),
+    ("10.48.0.0/12", Hop::Number(7)),
+    ("10.64.0.0/11", Hop::Number(8)),
+    ("10.1.0.0/16", Hop::Number(9)),
+    ("10.1.2.0/24", Hop::Drop),
+    ("2001:db8::/31", Hop::Number(9)),
+];
+
+fn add_changes(changes: &mut Vec<(IpNet, Hop)>) -> Result<(), Fault> {
+    for (text, hop) in &CHANGES {
+        made(changes.push((network(text)?, *hop)))?;
+    }
+    Ok(())
+}
+
+/// The operations of these changes.
 fn updates(rt: &HostRuntime, table: &HopTable) -> Result<(), Fault> {
-    let changes = [
-        (network("10.1.0.0/16")?, Hop::Number(9)),
-        (network("10.1.2.0/24")?, Hop::Drop),
-        (network("2001:db8::/31")?, Hop::Number(9)),
-    ];
+    let mut changes = Vec::new(rt.alloc());
+    add_changes(&mut changes)?;
     begin(rt);
-    ended_list(rt, table.updates(&changes));
+    ended_list(rt, table.updates(changes.as_slice()));
     Ok(())
 }
 

@@ -14,6 +14,7 @@ mod maps;
 mod nets;
 mod scenarios;
 mod sets;
+mod short_lists;
 mod show;
 mod subject;
 mod tables;

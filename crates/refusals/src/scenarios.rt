@@ -9,8 +9,9 @@ use crate::maps::MapCall;
 use crate::maps::MapCall::{Change, Give, Read, Store};
 use crate::maps::MapGift::*;
 use crate::nets::NetCall;
-use crate::scenarios::Call::{Feed, HopTable, Map, Net, Set, Table};
+use crate::scenarios::Call::{Feed, HopTable, Map, Net, Set, ShortList, Table};
 use crate::sets::SetCall;
+use crate::short_lists::ShortListCall;
 use crate::subject::run_over;
 use crate::tables::TableCall;
 use crate::{feeds, maps, nets, sets, tables};
@@ -19,6 +20,7 @@ use crate::{feeds, maps, nets, sets, tables};
 #[derive(Clone, Copy)]
 pub enum Call {
     Net(NetCall),
+    ShortList(ShortListCall),
     Map(MapCall),
     Set(SetCall),
     Table(TableCall),
@@ -27,7 +29,7 @@ pub enum Call {
 }
 
 /// The names and their calls.
-static SCENARIOS: [(&str, Call); 90] = [
+static SCENARIOS: [(&str, Call); 95] = [
     ("aggregate-ipv4", Net(NetCall::AggregateIpv4)),
     ("aggregate-ipv6", Net(NetCall::AggregateIpv6)),
     ("aggregate-mixed", Net(NetCall::AggregateMixed)),
@@ -37,6 +39,8 @@ static SCENARIOS: [(&str, Call); 90] = [
     ("free-net-read", Net(NetCall::Read)),
     ("free-net-print", Net(NetCall::Print)),
     ("free-net-walks", Net(NetCall::Walk)),
+    ("short-list-push", ShortList(ShortListCall::Push)),
+    ("short-list-insert", ShortList(ShortListCall::Insert)),
     ("free-map-new", Map(MapCall::New)),
     ("map-try-clone", Map(MapCall::TryClone)),
     ("map-insert", Map(Store(Insert))),
@@ -86,10 +90,13 @@ static SCENARIOS: [(&str, Call); 90] = [
     ("free-table-new", Table(TableCall::New)),
     ("table-add-ipv4", Table(TableCall::AddIpv4)),
     ("table-add-ipv6", Table(TableCall::AddIpv6)),
+    ("table-line-add", Table(TableCall::LineAdd)),
+    ("table-line-own", Table(TableCall::LineOwn)),
     ("table-overwrite", Table(TableCall::Overwrite)),
     ("table-own", Table(TableCall::Own)),
     ("table-least", Table(TableCall::Least)),
     ("table-into-least", Table(TableCall::IntoLeast)),
+    ("table-into-least-many", Table(TableCall::IntoLeastMany)),
     ("table-index", Table(TableCall::Index)),
     ("table-index-of-hops", Table(TableCall::IndexOfHops)),
     ("free-table-add-routes", Table(TableCall::AddRoutes)),
@@ -144,6 +151,7 @@ pub fn named(name: &str) -> Option<Call> {
 pub fn run(rt: &HostRuntime, call: Call) -> Result<(), Fault> {
     match call {
         Net(call) => nets::run(rt, call),
+        ShortList(call) => run_over::<short_vec::ShortVec<u32>>(rt, call),
         Map(call) => maps::run(rt, call),
         Set(call) => sets::run(rt, call),
         Table(call) => tables::run(rt, call),

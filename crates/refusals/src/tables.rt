@@ -1,10 +1,11 @@
 //! Route tables, and their indexes.
 use crate::fault::{Fault, made};
+use crate::feeds::lead_one;
 use crate::nets::network;
 use crate::show::{begin, counts, end, ended, ended_list, ended_with, line, lines, part, refused};
 use crate::subject::{Subject, make, run_over};
 use hop_index::HopIndex;
-use ipnet::{IpAddr, IpNet, Ipv6Net};
+use ipnet::{IpAddr, IpNet, Ipv4Addr, Ipv6Net};
 use route_table::{AddRefused, Hop, HopTable, Refused, RouteTable};
 use std::alloc::Global;
 use std::str::FromStr;
@@ -15,10 +16,13 @@ pub enum TableCall {
     New,
     AddIpv4,
     AddIpv6,
+    LineAdd,
+    LineOwn,
     Overwrite,
     Own,
     Least,
     IntoLeast,
+    IntoLeastMany,
     Index,
     IndexOfHops,
     AddRoutes,
@@ -75,12 +79,15 @@ impl Subject for RouteTable {
         match call {
             TableCall::AddIpv4 => add(rt, self, "10.1.2.3/32"),
             TableCall::AddIpv6 => add(rt, self, "2001:db8:8000::1/128"),
+            TableCall::LineAdd => lead_one(rt, self, "add 10.1.2.3/32 9"),
+            TableCall::LineOwn => lead_one(rt, self, "own 2"),
             TableCall::Overwrite => change(rt, self, network("10.1.2.0/24")?, |table, net| {
                 table.overwrite(net, Hop::Number(9))
             }),
             TableCall::Index => index(rt, self),
             TableCall::IndexOfHops => index_of_hops(rt, self),
             TableCall::IntoLeast => into_least(rt, self),
+            TableCall::IntoLeastMany => into_least_of_many(rt),
             TableCall::Hops => hops(rt, self),
             TableCall::Own | TableCall::Least => {
                 list(rt, self, call);
@@ -158,12 +165,11 @@ pub fn change<T, F: FnOnce(&mut T, IpNet) -> Result<(), Refused>>(
     Ok(())
 }
 
-/// Stores the best routes of IPv4 in a table, and writes the mark.
-fn begin_with(rt: &HostRuntime, table: &mut HopTable, routes: &RouteTable) -> Result<(), Fault> {
+/// Stores the best routes of IPv4 in a table.
+fn store_best(table: &mut HopTable, routes: &RouteTable) -> Result<(), Fault> {
     for (net, hop, _) in routes.list(&IpNet::default()) {
         store(table, net, hop)?;
     }
-    begin(rt);
     Ok(())
 }
 
@@ -174,10 +180,36 @@ fn store(table: &mut HopTable, net: IpNet, hop: Hop) -> Result<(), Fault> {
 /// A least table of a table with one route for each network, which is consumed.
 fn into_least(rt: &HostRuntime, routes: &RouteTable) -> Result<(), Fault> {
     let mut table = made(HopTable::new(rt.alloc()))?;
-    begin_with(rt, &mut table, routes)?;
+    store_best(&mut table, routes)?;
+    answer_least(rt, table);
+    Ok(())
+}
+
+/// Makes the call between the marks, and shows the routes.
+fn answer_least(rt: &HostRuntime, table: HopTable) {
+    begin(rt);
     if let Some(routes) = ended(rt, table.into_least()) {
         lines(rt, "answer ", routes);
     }
+}
+
+/// So many hosts that the steps of the computation, the sets of hops and the routes each fill more than one block of memory.
+const MANY: u32 = 360;
+
+/// Stores these hosts. Ten hops take turns.
+fn store_many(table: &mut HopTable) -> Result<(), Fault> {
+    for number in 0..MANY {
+        let host = IpNet::from(IpAddr::V4(Ipv4Addr::from_bits(number)));
+        store(table, host, Hop::Number(number % 10))?;
+    }
+    Ok(())
+}
+
+/// A least table of these hosts.
+fn into_least_of_many(rt: &HostRuntime) -> Result<(), Fault> {
+    let mut table = made(HopTable::new(rt.alloc()))?;
+    store_many(&mut table)?;
+    answer_least(rt, table);
     Ok(())
 }
 
@@ -233,7 +265,8 @@ fn index(rt: &HostRuntime, table: &RouteTable) -> Result<(), Fault> {
     }
 }
 
-/// Hosts with a hop each, so close together that an index needs nodes for them.
+/// Hosts with a hop each, so close together that an index needs nodes for them. An index stores a mark for the greatest hop, that of the
+/// first host.
 const HOSTS: [&str; 12] = [
     "10.1.2.8/32",
     "10.1.2.9/32",
@@ -251,7 +284,7 @@ const HOSTS: [&str; 12] = [
 
 fn store_hosts(table: &mut HopTable) -> Result<(), Fault> {
     for (place, text) in HOSTS.iter().enumerate() {
-        store(table, network(text)?, Hop::Number(place as u32))?;
+        store(table, network(text)?, Hop::Number(u32::MAX - place as u32))?;
     }
     Ok(())
 }
@@ -259,8 +292,9 @@ fn store_hosts(table: &mut HopTable) -> Result<(), Fault> {
 /// An index of a table with one route for each network, some of which are close together.
 fn index_of_hops(rt: &HostRuntime, routes: &RouteTable) -> Result<(), Fault> {
     let mut table = made(HopTable::new(rt.alloc()))?;
+    store_best(&mut table, routes)?;
     store_hosts(&mut table)?;
-    begin_with(rt, &mut table, routes)?;
+    begin(rt);
     match ended(rt, HopIndex::from_hop_table(rt.alloc(), &table)) {
         Some(index) => answer_hops(rt, &index),
         None => Ok(()),

@@ -5,7 +5,7 @@ use crate::tests::steps::{Script, all_go};
 use ipnet::{Ipv4Net, Ipv6Net};
 
 /// Scripts over IPv4 networks.
-static IPV4: [Script<&'static str>; 9] = [
+static IPV4: [Script<&'static str>; 10] = [
     (
         "four hosts",
         &[
@@ -63,6 +63,20 @@ static IPV4: [Script<&'static str>; 9] = [
             At("10.0.0.0/8", IsLeaf(false)),
             Retain(true),
             At("10.0.0.0/8", IsLeaf(true)),
+        ],
+    ),
+    (
+        "stored as a leaf, or not",
+        &[],
+        &[
+            At("10.1.0.0/16", InsertIsLeaf(2, None, true)),
+            At("10.0.0.0/8", InsertIsLeaf(1, None, false)),
+            At("10.1.2.3/16", InsertIsLeaf(3, Some(2), true)),
+            Walk(13),
+            Counts(2, 4),
+            At("10.1.0.0/16", KeepTree(Some(3))),
+            At("10.0.0.0/8", InsertIsLeaf(4, Some(1), false)),
+            Counts(1, 4),
         ],
     ),
     (

@@ -47,6 +47,8 @@ impl Spells<Ipv6Net> for &'static str {
 pub(crate) enum Call<S> {
     /// `insert`: the value that was stored.
     Insert(u32, Option<u32>),
+    /// `insert_is_leaf`: the value that was stored, and whether nothing is inside.
+    InsertIsLeaf(u32, Option<u32>, bool),
     /// `remove`: the value that was stored.
     Remove(Option<u32>),
     /// `remove_keep_tree`: the value that was stored.
@@ -161,6 +163,10 @@ fn change<P: Prefix + Copy + Drop + PartialEq + Debug, S: Spells<P>>(
 {
     match call {
         Insert(value, had) => step_is(rt, at, map.insert(key, *value), Ok(*had)),
+        InsertIsLeaf(value, had, is_leaf) => {
+            let stored = map.insert_is_leaf(key, *value);
+            step_is(rt, at, stored, Ok((*had, *is_leaf)));
+        }
         Remove(had) => step_is(rt, at, map.remove(&key), *had),
         KeepTree(had) => step_is(rt, at, map.remove_keep_tree(&key), *had),
         RemoveChildren => map.remove_children(&key),

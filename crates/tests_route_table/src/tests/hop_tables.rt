@@ -291,7 +291,7 @@ const UPDATES: [Step; 7] = [
 ];
 
 /// Scripts, and the least table at the end of each.
-static SCRIPTS: [(&str, &[Step], &str); 7] = [
+static SCRIPTS: [(&str, &[Step], &str); 8] = [
     // A network that is given twice, one inside another, and one of the other family.
     (
         "a table of one hop a network",
@@ -337,6 +337,19 @@ static SCRIPTS: [(&str, &[Step], &str); 7] = [
         "updates by the fewest operations",
         &UPDATES,
         "10.0.0.0/8 1, 10.0.0.0/9 2, 10.96.0.0/11 4, ::/0 1, 2001:db8::/33 drop",
+    ),
+    // The quarters of a half get four hops, and the other half has a route, so the computation copies a list of four hops.
+    (
+        "four hops beside a route",
+        &[
+            Step::Change(Change::Install, "10.0.0.128/25 1"),
+            Step::Update(
+                "10.0.0.0/27 2, 10.0.0.32/27 3, 10.0.0.64/27 4, 10.0.0.96/27 5, 10.0.0.192/26 6",
+                5,
+                "10.0.0.0/27 2, 10.0.0.32/27 3, 10.0.0.64/27 4, 10.0.0.96/27 5, 10.0.0.128/26 1, 10.0.0.192/26 6",
+            ),
+        ],
+        "10.0.0.0/24 1, 10.0.0.0/25 2, 10.0.0.32/27 3, 10.0.0.64/26 4, 10.0.0.96/27 5, 10.0.0.192/26 6",
     ),
     (
         "all addresses are dropped; a `drop` stays",
