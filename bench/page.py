@@ -12,7 +12,7 @@ from pathlib import Path
 import plot
 
 ROOT = Path(__file__).resolve().parent.parent
-TITLES = ("Times and memory", "Least tables", "Beside a Rust program", "The installer", "Map calls", "From C", "Lookups in other tables")
+TITLES = ("Times and memory", "Least tables", "Beside a Rust program", "The installer", "Map calls", "From C", "Lookups in other tables", "Huge pages")
 REAL = "real, both families"
 
 HEAD = """# Results of the benchmarks
@@ -177,6 +177,12 @@ def maps(results):
     yield "docs/pictures/maps.svg", plot.bars("Nanoseconds for a call of a map of 1,000,000 networks", bars, legend)
 
 
+def huge(results):
+    """Programs with huge pages."""
+    yield "huge pages", table(["feed", "program", "CPU s", "with huge pages", "MB", "with huge pages", "the peer's CPU s", "with huge pages"],
+                              [[*row.values()][:8] for row in results.rows(TITLES[7])])
+
+
 def headline(results):
     """README's lines."""
     row, installer = results.row(TITLES[0], REAL), results.row(TITLES[3], REAL)
@@ -203,7 +209,7 @@ def followed(results):
     """The files that follow from the results, and their content."""
     page = ROOT / "docs/PERFORMANCE.md"
     made, text = {}, None
-    for name, content in (pair for of in (programs, growth, least, installer, lookups, other_tables, changes, maps) for pair in of(results)):
+    for name, content in (pair for of in (programs, growth, least, huge, installer, lookups, other_tables, changes, maps) for pair in of(results)):
         if name.endswith(".svg"):
             made[ROOT / name] = content
         else:
