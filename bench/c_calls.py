@@ -44,8 +44,8 @@ from the networks, or anywhere from the block."""
 MADE = """These indexes, each of a table of one family, are made in {made:.0f} ms together. That is {ratio:.3f} of the {lead:.2f} s in which
 `routes lead` loads the feed beside them, its output to a file."""
 
-TOGETHER = """{readers} threads look up addresses in one index at the same time on {cores}, 64 in a call, each by a handle of its own.
-By the clock they make {v4:.1f} times as many lookups as one thread for IPv4, and {v6:.1f} times as many for IPv6."""
+TOGETHER = """{readers} threads look up addresses in one index at the same time on {cores}. Each has a handle of its own, and looks up 64
+in a call. By the clock they make {v4:.1f} times as many lookups as one thread for IPv4, and {v6:.1f} times as many for IPv6."""
 
 
 def adds_of(feed, family):

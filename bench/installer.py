@@ -18,11 +18,11 @@ its own. *At once* has `sync` last, as at a start, so one batch installs the lea
 each time."""
 
 CHANGED = """If all networks of the real feed are installed as announced, a first `sync` takes {installs:,} installs and {removes:,}
-removes. In another run its least table of {least:,} routes is installed, and {commands:,} commands follow (`bench/feeds.py over`): networks
-are withdrawn, announced again, and get another hop. They give {batches:,} batches with {operations:,} operations. All but one in a thousand
-batches have at most {usual:,} operations, and the largest has {largest:,}. After them {before:,} routes are installed; a second `sync`, of
-{last:,} operations, leaves {after:,}. For the feed, these commands and both `sync`, `routes_fib` took {kept.seconds:.2f} s and
-{kept_mb:.1f} MB; `routes follow` took {follow.seconds:.2f} s and {follow_mb:.1f} MB for the same replies."""
+removes. In another run its least table of {least:,} routes is installed, and {commands:,} commands follow (`bench/feeds.py over`). They
+withdraw networks, announce them again, and give them another hop. They give {batches:,} batches with {operations:,} operations. All but one
+in a thousand batches have at most {usual:,} operations, and the largest has {largest:,}. After them {before:,} routes are installed; a
+second `sync`, of {last:,} operations, leaves {after:,}. For the feed, these commands and both `sync`, `routes_fib` took
+{kept.seconds:.2f} s and {kept_mb:.1f} MB. `routes follow` took {follow.seconds:.2f} s and {follow_mb:.1f} MB for the same replies."""
 
 
 def replayed(path):

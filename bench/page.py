@@ -191,7 +191,7 @@ def headline(results):
     rate, megabytes = int(row["commands/s"].replace(",", "")), float(row["lead MB"])
     times = float(installer["kept s"]) / float(installer["follow s"])
     return (f"On a real feed of {networks_of(results, REAL)} networks, `routes lead` replies to {round(rate, -3):,.0f} commands a second on one "
-            f"core, in {megabytes:.0f} MB.\n`routes_fib`, with a batch for each reply, takes {times:.1f} times as long as `routes follow` for the same "
+            f"core, in {megabytes:.0f} MB.\n`routes_fib`, with a batch for each change, takes {times:.1f} times as long as `routes follow` for the same "
             "replies.\n")
 
 

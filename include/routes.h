@@ -21,8 +21,8 @@
  * after the length. In a network that a call returns, these bits are 0. Check a length or a preference before you pass it from a
  * larger type: C makes 0 of 256 without a word.
  *
- * A call that can fail returns a routes_answer. If it is not ROUTES_OK, the table, its lists and the targets of the pointers are
- * unchanged. There are two exceptions, routes_line and routes_follower_line. */
+ * A call that can fail returns a status, a number of routes_answer. If it is not ROUTES_OK, the table, its lists and the targets
+ * of the pointers are unchanged. There are two exceptions, routes_line and routes_follower_line. */
 #ifndef ROUTES_H
 #define ROUTES_H
 
@@ -34,11 +34,11 @@
 extern "C" {
 #endif
 
-/* The results of the calls that can fail. If several apply, ROUTES_TOO_LONG and ROUTES_OPEN come first. */
+/* The statuses of the calls that can fail. If several apply, ROUTES_TOO_LONG and ROUTES_OPEN come first. */
 enum routes_answer {
     ROUTES_OK = 0,
     ROUTES_MISSING = 1,    /* no network contains the address, or it has no hop; the network has no such hop; or
-                            * the index is past the end of the list */
+                            * the position is past the end of the list */
     ROUTES_NO_MEMORY = 2,  /* malloc or realloc failed, an index would be too large, or too many handles share an
                             * index */
     ROUTES_CLOSED = 3,     /* the table, the index or the follower is not open, or it is open as another of these
@@ -129,11 +129,11 @@ uint32_t routes_del6(routes_table *table, uint64_t high, uint64_t low, uint8_t l
  * Returns ROUTES_OK, ROUTES_NO_MEMORY or ROUTES_CLOSED. */
 uint32_t routes_flat(routes_table *table);
 
-/* Reads the block at an index of this list, which is empty before the first routes_flat. Returns ROUTES_OK, ROUTES_MISSING past
- * the end of the list, or ROUTES_CLOSED. */
+/* Reads the block at a position of this list, which is empty before the first routes_flat. The first position is 0. Returns
+ * ROUTES_OK, ROUTES_MISSING past the end of the list, or ROUTES_CLOSED. */
 uint32_t routes_piece_at(routes_table *table, size_t index, routes_piece *piece);
 
-/* Copies this list from index `from` on, as far as there is room. Returns the number of blocks copied: 0 at the end, and for a
+/* Copies this list from position `from` on, as far as there is room. Returns the number of blocks copied: 0 at the end, and for a
  * closed table. The rest of `pieces` is unchanged. */
 size_t routes_read_pieces(routes_table *table, size_t from, routes_piece *pieces, size_t room);
 
@@ -170,21 +170,21 @@ uint32_t routes_governed6(routes_table *table, uint64_t high, uint64_t low, uint
 /* The blocks of the flat list with this hop number, IPv4 first, ascending, each with the number and ROUTES_PREFERENCE. */
 uint32_t routes_own(routes_table *table, uint32_t number);
 
-/* The routes of a smallest table with the same hop at every address, IPv4 first, ascending, with ROUTES_PREFERENCE. If there are
- * several such tables, it is any of them. */
+/* The routes of a least table: the fewest with the same hop at every address, IPv4 first, ascending, with ROUTES_PREFERENCE. If
+ * there are several such tables, it is any of them. */
 uint32_t routes_least(routes_table *table);
 
-/* Reads the route at an index of the list of routes, which is empty before the first of the calls above. Returns ROUTES_OK,
+/* Reads the route at a position of the list of routes, which is empty before the first of the calls above. Returns ROUTES_OK,
  * ROUTES_MISSING past the end of the list, or ROUTES_CLOSED. */
 uint32_t routes_route_at(routes_table *table, size_t index, routes_route *route);
 
-/* Copies the list of routes from index `from` on, as far as there is room. Returns the number of routes copied: 0 at the end, and
- * for a closed table. The rest of `routes` is unchanged. */
+/* Copies the list of routes from position `from` on, as far as there is room. Returns the number of routes copied: 0 at the end,
+ * and for a closed table. The rest of `routes` is unchanged. */
 size_t routes_read(routes_table *table, size_t from, routes_route *routes, size_t room);
 
 /* Carries out a command line of `routes lead`, given without its line end, and stores the reply: the bytes that `routes lead`
  * prints for it. Returns ROUTES_OK, even if the reply is `bad`, `none` or `refused`, ROUTES_NO_MEMORY or ROUTES_CLOSED. It
- * returns ROUTES_NO_MEMORY if an allocation for the reply fails; then the table is the one after the line, and a beginning of the
+ * returns ROUTES_NO_MEMORY if an allocation for the reply fails. Then the table is the one after the line, and a beginning of the
  * reply is stored. */
 uint32_t routes_line(routes_table *table, const uint8_t *line, size_t len);
 
@@ -250,23 +250,23 @@ uint32_t routes_follower_get4(routes_follower *follower, uint32_t addr, uint32_t
 uint32_t routes_follower_get6(routes_follower *follower, uint64_t high, uint64_t low, uint32_t *hop);
 
 /* The first makes the flat list of the hops, in the follower's memory, as routes_flat does. It returns ROUTES_OK,
- * ROUTES_NO_MEMORY, ROUTES_FAILED or ROUTES_CLOSED. The second reads the block at an index of this list. It returns ROUTES_OK,
+ * ROUTES_NO_MEMORY, ROUTES_FAILED or ROUTES_CLOSED. The second reads the block at a position of this list. It returns ROUTES_OK,
  * ROUTES_MISSING past the end of the list, or ROUTES_CLOSED. */
 uint32_t routes_follower_flat(routes_follower *follower);
 uint32_t routes_follower_piece_at(routes_follower *follower, size_t index, routes_piece *piece);
 
-/* Copies this list from index `from` on, as routes_read_pieces does. Returns 0 at the end, and for a closed follower. */
+/* Copies this list from position `from` on, as routes_read_pieces does. Returns 0 at the end, and for a closed follower. */
 size_t routes_follower_read_pieces(routes_follower *follower, size_t from, routes_piece *pieces, size_t room);
 
-/* Makes the list of the routes of a smallest table with the same hop at every address, in the follower's memory, as routes_least
+/* Makes the list of the routes of a least table with the same hop at every address, in the follower's memory, as routes_least
  * does. The list is unchanged until the next routes_follower_least, and empty before the first. Returns ROUTES_OK,
  * ROUTES_NO_MEMORY, ROUTES_FAILED or ROUTES_CLOSED. */
 uint32_t routes_follower_least(routes_follower *follower);
 
-/* Reads the route at an index of this list. Returns ROUTES_OK, ROUTES_MISSING past the end of the list, or ROUTES_CLOSED. */
+/* Reads the route at a position of this list. Returns ROUTES_OK, ROUTES_MISSING past the end of the list, or ROUTES_CLOSED. */
 uint32_t routes_follower_route_at(routes_follower *follower, size_t index, routes_route *route);
 
-/* Copies this list from index `from` on, as routes_read does. Returns 0 at the end, and for a closed follower. */
+/* Copies this list from position `from` on, as routes_read does. Returns 0 at the end, and for a closed follower. */
 size_t routes_follower_read(routes_follower *follower, size_t from, routes_route *routes, size_t room);
 
 /* Opens a closed index, with the hops that the follower has now. It is a snapshot: later lines are not visible, and the follower

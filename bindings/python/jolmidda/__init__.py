@@ -342,7 +342,7 @@ class Table(_Handle):
         return self._listed(self._read, self._call_long, "own", _number_of(hop))
 
     def least(self) -> List[Route]:
-        """Returns the routes of a smallest table with the same hop at each address."""
+        """Returns the routes of a least table: the fewest with the same hop at each address."""
         return self._listed(self._read, self._call_long, "least")
 
     def line(self, line: Union[str, bytes]) -> str:
@@ -464,7 +464,7 @@ class Follower(_Handle):
         return self._arrays()
 
     def least(self) -> List[Route]:
-        """Returns the routes of a smallest table with the same hop at each address."""
+        """Returns the routes of a least table: the fewest with the same hop at each address."""
         return self._listed(self._read, self._call_long, "least")
 
 

@@ -97,7 +97,7 @@ impl Follower {
         })
     }
 
-    /// Returns the routes of a smallest table with the same hop at each address.
+    /// Returns the routes of a least table: the fewest with the same hop at each address.
     ///
     /// # Errors
     /// `NoMemory`, and `Failed` after a fault.

@@ -29,7 +29,7 @@
 //! A [`Table`], an [`Index`] or a [`Follower`] is `Send` and not `Sync`: move it to another
 //! thread, or share it behind a lock. For lookups on several threads at the same time, give each
 //! an index of its own by [`Index::share`]. In the forked child of a process with threads, make
-//! no call.
+//! no call. A drop is a call: pass each object to [`std::mem::forget`] there.
 
 #![warn(missing_docs)]
 

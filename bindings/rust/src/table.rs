@@ -214,7 +214,7 @@ impl Table {
         self.read()
     }
 
-    /// Returns the routes of a smallest table with the same hop at each address.
+    /// Returns the routes of a least table: the fewest with the same hop at each address.
     ///
     /// # Errors
     /// `NoMemory`.
