@@ -7,24 +7,24 @@ use std::io::{Read, Write};
 use std::process::Abort;
 use std::test::Fail;
 
-/// Bytes of a device, and three reads of them: each piece, and whether the input keeps a complete line after it.
-type Row = (&'static str, [(&'static str, bool); 3]);
+/// Bytes of a device, and reads of them: each piece, and whether the input keeps a complete line after it.
+type Row = (&'static str, &'static [(&'static str, bool)]);
 
 static ROWS: [Row; 6] = [
-    ("", [("", false), ("", false), ("", false)]),
-    ("add\n", [("add\n", false), ("", false), ("", false)]),
-    ("add\nget", [("add\nget", false), ("", false), ("", false)]),
+    ("", &[("", false), ("", false)]),
+    ("add\n", &[("add\n", false), ("", false)]),
+    ("add\nget", &[("add\nget", false), ("", false)]),
     (
         "add\nget\n",
-        [("add\n", true), ("get\n", false), ("", false)],
+        &[("add\n", true), ("get\n", false), ("", false)],
     ),
     (
         "add\nget\nall",
-        [("add\n", true), ("get\nall", false), ("", false)],
+        &[("add\n", true), ("get\nall", false), ("", false)],
     ),
     (
         "add\nget\nall\n",
-        [("add\nget\n", true), ("all\n", false), ("", false)],
+        &[("add\nget\n", true), ("all\n", false), ("", false)],
     ),
 ];
 
@@ -46,7 +46,7 @@ fn row_reads(rt: &impl Abort, row: &Row) {
     let (bytes, pieces) = row;
     let more = Cell::new(false);
     let mut input = Input::new(bytes.as_bytes(), &more);
-    for wanted in pieces {
+    for wanted in *pieces {
         reads(rt, &mut input, &more, *wanted);
     }
 }
@@ -67,7 +67,12 @@ fn reads_byte<R: Read>(
 ) {
     let mut buf = [0; 1];
     let count = input.read(&mut buf).expect(rt, "a read");
-    row_is(rt, wanted, (count, buf[0], more.get()), (1, wanted.0, wanted.1));
+    row_is(
+        rt,
+        wanted,
+        (count, buf[0], more.get()),
+        (1, wanted.0, wanted.1),
+    );
 }
 
 /// A kept line that is read byte by byte is available up to its line end.
