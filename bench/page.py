@@ -178,9 +178,9 @@ def maps(results):
 
 
 def huge(results):
-    """Programs with huge pages."""
-    yield "huge pages", table(["feed", "program", "CPU s", "with huge pages", "MB", "with huge pages", "the peer's CPU s", "with huge pages"],
-                              [[*row.values()][:8] for row in results.rows(TITLES[7])])
+    """The program with huge pages."""
+    yield "huge pages", table(["feed", "program", "CPU s", "with huge pages", "MB", "with huge pages"],
+                              [[*row.values()] for row in results.rows(TITLES[7])])
 
 
 def headline(results):
