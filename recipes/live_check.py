@@ -1049,6 +1049,26 @@ def check_memory(folder):
         print(f"{len(nets):,} installs, of which {len(nets) // 4:,} were refused, in {most:,} kB: status 3 once the kernel takes them")
 
 
+def check_gateways(folder):
+    """hops of 256 gateways are installed, and are listed even if HOPS does not have them; a hop of 257 is a wrong line"""
+    hops, other = Path(folder, "gateways"), Path(folder, "other")
+    ways = [" ".join(f"nexthop via {address.format(at)} dev lan weight {at} onlink" for at in range(1, 257))
+            for address in ("10.9.255.255", "inet6 fe80:ffff:ffff:ffff:ffff:ffff:ffff:{:04x}")]
+    hops.write_text(text(f"{number} {words}" for number, words in enumerate(ways, 1)))
+    other.write_text("")
+    routes = [f"10.{at}.0.0/16 {hop}" for at, hop in enumerate((2, 1, "drop", 2))] + ["2001:db8::/48 2", "2001:db8:1::/48 drop"]
+    with namespace(*LAN) as own:
+        command = [*inside(own), FIB_KERNEL]
+        tool(*command, "load", str(hops), "77", given=text([*(f"install {route}" for route in routes), "ok"]))
+        for file, unknown in ((hops, None), (other, "4294967295")):
+            wanted = {" ".join(["have", net, hop if hop == "drop" else unknown or hop]) for net, hop in map(str.split, routes)}
+            same("the list", set(tool(*command, "list", str(file), "77").splitlines()) - {"ok"}, wanted)
+        other.write_text(f"1 {ways[0]} nexthop dev lan\n")
+        same("257 gateways", refused(*command, "list", str(other), "77").endswith("line 1: too many gateways"), True)
+        other.write_text("1 dev lan".ljust(1 << 16) + "\n")
+        same("a long line", refused(*command, "list", str(other), "77").endswith("line 1: too long"), True)
+
+
 def check(is_figures):
     needs("ip", "iproute2")
     needs(FIB_KERNEL, "libmnl-dev, after which `make -C netlink` builds it,")
@@ -1059,8 +1079,8 @@ def check(is_figures):
     with tempfile.TemporaryDirectory() as folder:
         hops = f"{folder}/hops"
         check_page(folder)
-        for one in (check_lines, check_refused, check_silent, check_events, check_shorter, check_families, check_sandbox, check_options,
-                    check_tries, check_permission, check_own, check_made_again, check_memory, check_measures):
+        for one in (check_lines, check_gateways, check_refused, check_silent, check_events, check_shorter, check_families, check_sandbox,
+                    check_options, check_tries, check_permission, check_own, check_made_again, check_memory, check_measures):
             one(folder)
             print(f"seen: {one.__doc__}")
         Path(hops).write_text(text(f"{hop} via fe80::{hop} dev lan" for hop in HOPS))
