@@ -1069,6 +1069,39 @@ def check_gateways(folder):
         same("a long line", refused(*command, "list", str(other), "77").endswith("line 1: too long"), True)
 
 
+WITHOUT_SIX = """
+#include <linux/rtnetlink.h>
+#include <sys/socket.h>
+#include <sys/syscall.h>
+#include <unistd.h>
+ssize_t sendto(int file, const void *data, size_t size, int flags, const struct sockaddr *to, socklen_t length)
+{
+    const struct nlmsghdr *head = data;
+    struct rtmsg *route = NLMSG_DATA(head);
+    if (head->nlmsg_type >= RTM_NEWROUTE && head->nlmsg_type <= RTM_GETROUTE && route->rtm_family == AF_INET6)
+        route->rtm_family = AF_X25;
+    return syscall(SYS_sendto, file, data, size, flags, to, length);
+}
+"""
+
+
+def check_without_six(folder):
+    """a kernel without IPv6 takes all routes of IPv4; here it gets messages for IPv6 as those of a family that it doesn't have"""
+    hops, shim = f"{folder}/way", f"{folder}/shim.so"
+    if shutil.which("cc") is None:
+        return print("passed over: a kernel without IPv6, since there is no cc")
+    tool("cc", "-x", "c", "-shared", "-fPIC", "-o", shim, "-", given=WITHOUT_SIX)
+    Path(hops).write_text("1 via 192.0.2.1 dev lan\n2 via fe80::2 dev lan\n")
+    six = [f"install 2001:db8:{at}::/48 {hop}" for at, hop in enumerate((2, "drop", 9))] + ["remove 2001:db8::/48"]
+    with namespace(*LAN) as own:
+        command = [*inside(own), "env", f"LD_PRELOAD={shim}", FIB_KERNEL]
+        for mode, given, wanted in (("list", "", ""), ("load", text([*six, "install 10.1.0.0/16 1"]), ""),
+                                    ("watch", text(six), "have 10.1.0.0/16 1\nok\n")):
+            done = subprocess.run([*command, mode, hops, "77"], input=f"{given}ok\n", capture_output=True, text=True)
+            said = "fib_kernel: the kernel has no IPv6, so networks of IPv6 are passed over\n" * bool(given)
+            same(f"`{mode}` without IPv6", [done.returncode, done.stdout, done.stderr], [0, f"{wanted}ok\n", said])
+
+
 def check(is_figures):
     needs("ip", "iproute2")
     needs(FIB_KERNEL, "libmnl-dev, after which `make -C netlink` builds it,")
@@ -1079,8 +1112,9 @@ def check(is_figures):
     with tempfile.TemporaryDirectory() as folder:
         hops = f"{folder}/hops"
         check_page(folder)
-        for one in (check_lines, check_gateways, check_refused, check_silent, check_events, check_shorter, check_families, check_sandbox,
-                    check_options, check_tries, check_permission, check_own, check_made_again, check_memory, check_measures):
+        for one in (check_lines, check_gateways, check_refused, check_silent, check_events, check_shorter, check_families,
+                    check_without_six, check_sandbox, check_options, check_tries, check_permission, check_own, check_made_again,
+                    check_memory, check_measures):
             one(folder)
             print(f"seen: {one.__doc__}")
         Path(hops).write_text(text(f"{hop} via fe80::{hop} dev lan" for hop in HOPS))
