@@ -856,13 +856,14 @@ def check_ends(own, command):
 
 
 def check_own(folder):
-    """changes of its own and of other tables and links are no events; a foreign one after them is; and so are events that were lost"""
+    """its own changes, and those of other tables, links and lifetimes, are no events; a foreign one after them is; and so are lost ones"""
     hops, lost = f"{folder}/own", [f"address {word} 203.0.113.{at}/32 dev far" for at in range(1, 255) for word in ("add", "del")] * 8
     Path(hops).write_text("1 dev lan\n")
     with namespace(*LAN) as own:
         process = watching(own, hops)
         carry_out(process, *(f"install 10.{at >> 8}.{at & 255}.0/24 1" for at in range(20000)))
-        for line in ("route add 10.0.7.0/24 dev lan table 78", "link set far mtu 1400", *lost[:2]):
+        for line in ("route add 10.0.7.0/24 dev lan table 78", "link set far mtu 1400", *lost[:2], "address add 192.0.2.253/24 dev lan",
+                     "address change 192.0.2.254/24 dev lan valid_lft 3600 preferred_lft 3600"):
             tool("ip", "-n", own, *line.split())
         carry_out(process)  # it looks at events before each input
         tool("ip", "-n", own, "route", "del", "10.0.7.0/24", "table", "77")
