@@ -59,17 +59,17 @@ static void take_link(const struct nlmsghdr *head)
         begin_again("the link %s changed", text);
 }
 
-/* With an IPv4 address its routes go, too. With an IPv6 address none go, and it is announced whenever its time is prolonged. */
+/* With an IPv4 address its routes go, too, and with an IPv6 address none. An address is also announced whenever its time is prolonged. */
 static void take_address(const struct nlmsghdr *head)
 {
     const struct ifaddrmsg *address = mnl_nlmsg_get_payload(head);
     const struct nlattr *name = attribute(head, sizeof *address, IFA_LABEL);
     if (!uses_device(address->ifa_index, NULL))
         return;
-    if (address->ifa_family == AF_INET6)
+    if (address->ifa_family == AF_INET6 || head->nlmsg_type == RTM_NEWADDR)
         try_soon();
     else
-        begin_again("an address of the link %s changed", name ? mnl_attr_get_str(name) : "?");
+        begin_again("an address of the link %s was removed", name ? mnl_attr_get_str(name) : "?");
 }
 
 static void take_route(const struct nlmsghdr *head)

@@ -22,7 +22,8 @@ static const char usage[] =
     "\n"
     "    list   writes a line `have NET HOP` for each route of the protocol in the table, and `ok`\n"
     "    load   carries out the lines `install NET HOP` and `remove NET`, and writes `ok` for each line `ok`\n"
-    "    watch  does both, and ends with status 3 when a link, an address, a nexthop object or, by another program, the table changes\n"
+    "    watch  does both, and ends with status 3 when a link or a nexthop object changes, an address goes, or another program changes\n"
+    "           the table\n"
     "    -p     the protocol of the routes, 1 to 255; the number of the table if it isn't given\n"
     "    -r     the longest pause before a refused install is tried again (64), 0 for no try\n";
 

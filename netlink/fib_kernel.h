@@ -6,7 +6,7 @@
 #include <stddef.h>
 #include <stdint.h>
 
-enum { MOST_LEGS = 32, AGAIN = 3 };              /* the gateways of a next hop; the status that asks for a new start */
+enum { MOST_LEGS = 256, AGAIN = 3 };             /* the gateways of a next hop; the status that asks for a new start */
 #define DROP ((uint64_t)1 << 32)                 /* one more than the numbers of next hops */
 #define UNKNOWN ((uint64_t)UINT32_MAX)           /* the number of a route's next hop that HOPS does not have */
 

@@ -6,6 +6,7 @@
 #include <sys/stat.h>
 
 #define BLANKS " \t"
+enum { LONGEST_WORDS = MOST_LEGS * 128 };        /* bytes of a hop; a gateway with all its words takes at most 102 */
 
 static const char *path;
 static struct stat read_at;
@@ -56,7 +57,7 @@ static bool take_word(struct hop *hop, struct leg *leg, const char *word, char *
 /* NULL, or why these are not the words of a hop. */
 static const char *parse_words(struct hop *hop)
 {
-    static char why[200], copy[4096];
+    static char why[200], copy[LONGEST_WORDS];
     struct leg *leg = NULL, other;
     char *rest, *word;
     if (snprintf(copy, sizeof copy, "%s", hop->words) >= (int)sizeof copy)
@@ -109,10 +110,16 @@ static int compare_ways(const void *a, const void *b)
     return order;
 }
 
+/* Gateways that follow one another often have one device. Then one question to the kernel serves them all. */
+static bool has_device_of_last(const struct leg *leg)
+{
+    return leg > legs && !strcmp(leg->name, leg[-1].name);
+}
+
 static void read_devices(void)
 {
     for (size_t i = 0; i < leg_count; i++)
-        legs[i].device = find_device(legs[i].name);
+        legs[i].device = has_device_of_last(&legs[i]) ? legs[i - 1].device : find_device(legs[i].name);
     qsort(by_way, hop_count, sizeof *by_way, compare_ways);
 }
 
@@ -187,7 +194,8 @@ bool has_new_devices(const struct hop *hop)
 {
     bool is_new = false;
     for (uint32_t i = 0; i < hop->count; i++)
-        is_new |= hop->legs[i].device != find_device(hop->legs[i].name);
+        if (!i || !has_device_of_last(&hop->legs[i]))
+            is_new |= hop->legs[i].device != find_device(hop->legs[i].name);
     if (is_new)
         read_devices();
     return is_new;

@@ -7,8 +7,12 @@
 #include <stdio.h>
 #include <string.h>
 
+/* The most bytes of a gateway in a message, which an IPv6 one for an IPv4 network takes; and those of the rest of the message. */
+enum { LEG_SIZE = sizeof(struct rtnexthop) + MNL_ATTR_HDRLEN + MNL_ALIGN(sizeof(uint16_t) + 16), REST_SIZE = 256 };
+
 static struct mnl_socket *kernel;
 static uint32_t table, protocol, sequence;
+static char received[1 << 16];
 
 static void put_gateway(struct nlmsghdr *head, int family, const struct leg *leg)
 {
@@ -83,10 +87,9 @@ static void read_words(const struct nlmsghdr *head, char *words, size_t room)
 
 static const struct nlmsghdr *send_and_wait(const struct nlmsghdr *head)
 {
-    static char buffer[1 << 13];
-    if (mnl_socket_sendto(kernel, head, head->nlmsg_len) < 0 || mnl_socket_recvfrom(kernel, buffer, sizeof buffer) < 0)
+    if (mnl_socket_sendto(kernel, head, head->nlmsg_len) < 0 || mnl_socket_recvfrom(kernel, received, sizeof received) < 0)
         fault("netlink: %m");
-    head = (void *)buffer;
+    head = (void *)received;
     if (head->nlmsg_seq != sequence)
         fault("netlink: an answer to another message");
     return head;
@@ -105,7 +108,7 @@ static struct answer answer_of(const struct nlmsghdr *head)
 
 struct answer ask(const struct network *network, const struct hop *hop)
 {
-    char buffer[4096];
+    char buffer[REST_SIZE + MOST_LEGS * LEG_SIZE];
     struct nlmsghdr *head = mnl_nlmsg_put_header(buffer);
     uint16_t flags = NLM_F_ACK | (hop ? NLM_F_CREATE | NLM_F_REPLACE : 0);
     struct rtmsg *route = start(head, hop ? RTM_NEWROUTE : RTM_DELROUTE, flags, network->family);
@@ -225,24 +228,26 @@ static int end_list(const struct nlmsghdr *head, void *unused)
 static void list_family(uint8_t family)
 {
     static mnl_cb_t ends[] = {[NLMSG_ERROR] = end_list, [NLMSG_DONE] = end_list};
-    static char buffer[1 << 16];
-    struct nlmsghdr *head = mnl_nlmsg_put_header(buffer);
+    struct nlmsghdr *head = mnl_nlmsg_put_header(received);
     uint32_t port = mnl_socket_get_portid(kernel);
     int size;
     start(head, RTM_GETROUTE, NLM_F_DUMP, family);
     if (mnl_socket_sendto(kernel, head, head->nlmsg_len) < 0)
         fault("netlink: %m");
     do
-        size = mnl_socket_recvfrom(kernel, buffer, sizeof buffer);
-    while (size > 0 && (size = mnl_cb_run2(buffer, size, sequence, port, print_route, &family, ends, NLMSG_DONE + 1)) > 0);
+        size = mnl_socket_recvfrom(kernel, received, sizeof received);
+    while (size > 0 && (size = mnl_cb_run2(received, size, sequence, port, print_route, &family, ends, NLMSG_DONE + 1)) > 0);
     if (size < 0 && errno == EINTR)
         begin_again("the table changed while it was listed");
     if (size < 0 && errno != ENOENT)
         fault("list: %m");
 }
 
+/* The parts of a list have at most the size of the buffer in which an answer came before, and 32 kB. A route that has no room in a part
+   ends the list without an error. So an answer comes first. */
 void list_routes(void)
 {
+    find_device("lo");
     list_family(AF_INET);
     list_family(AF_INET6);
 }

@@ -90,6 +90,17 @@ static struct answer try_install(const struct network *network, uint64_t number)
     return answer;
 }
 
+/* Whether the kernel has no IPv6, and so no routes of it. This is said once. */
+static bool lacks_family(const struct network *network, int error)
+{
+    static bool is_said;
+    bool lacks = network->family == AF_INET6 && error == EOPNOTSUPP;
+    if (lacks && !is_said)
+        fputs("fib_kernel: the kernel has no IPv6, so networks of IPv6 are passed over\n", stderr);
+    is_said |= lacks;
+    return lacks;
+}
+
 /* A blackhole route takes the place of a refused one. */
 void install(const struct network *network, uint64_t number)
 {
@@ -98,7 +109,10 @@ void install(const struct network *network, uint64_t number)
         forget(network);
         return;
     }
-    if (number == DROP || ask(network, &dropped).error) {
+    int error = number == DROP ? answer.error : ask(network, &dropped).error;
+    if (lacks_family(network, error))
+        return;
+    if (error) {
         say_answer(network, number, &answer);
         exit(1);
     }
@@ -115,7 +129,7 @@ void remove_route(const struct network *network)
     struct answer answer = ask(network, NULL);
     char net[INET6_ADDRSTRLEN];
     forget(network);
-    if (answer.error && answer.error != ESRCH)
+    if (answer.error && answer.error != ESRCH && !lacks_family(network, answer.error))
         fault("remove %s/%u: %s", inet_ntop(network->family, network->address, net, sizeof net), network->length, strerror(answer.error));
 }
 

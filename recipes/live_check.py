@@ -856,13 +856,14 @@ def check_ends(own, command):
 
 
 def check_own(folder):
-    """changes of its own and of other tables and links are no events; a foreign one after them is; and so are events that were lost"""
+    """its own changes, and those of other tables, links and lifetimes, are no events; a foreign one after them is; and so are lost ones"""
     hops, lost = f"{folder}/own", [f"address {word} 203.0.113.{at}/32 dev far" for at in range(1, 255) for word in ("add", "del")] * 8
     Path(hops).write_text("1 dev lan\n")
     with namespace(*LAN) as own:
         process = watching(own, hops)
         carry_out(process, *(f"install 10.{at >> 8}.{at & 255}.0/24 1" for at in range(20000)))
-        for line in ("route add 10.0.7.0/24 dev lan table 78", "link set far mtu 1400", *lost[:2]):
+        for line in ("route add 10.0.7.0/24 dev lan table 78", "link set far mtu 1400", *lost[:2], "address add 192.0.2.253/24 dev lan",
+                     "address change 192.0.2.254/24 dev lan valid_lft 3600 preferred_lft 3600"):
             tool("ip", "-n", own, *line.split())
         carry_out(process)  # it looks at events before each input
         tool("ip", "-n", own, "route", "del", "10.0.7.0/24", "table", "77")
@@ -1049,6 +1050,59 @@ def check_memory(folder):
         print(f"{len(nets):,} installs, of which {len(nets) // 4:,} were refused, in {most:,} kB: status 3 once the kernel takes them")
 
 
+def check_gateways(folder):
+    """hops of 256 gateways are installed, and are listed even if HOPS does not have them; a hop of 257 is a wrong line"""
+    hops, other = Path(folder, "gateways"), Path(folder, "other")
+    ways = [" ".join(f"nexthop via {address.format(at)} dev lan weight {at} onlink" for at in range(1, 257))
+            for address in ("10.9.255.255", "inet6 fe80:ffff:ffff:ffff:ffff:ffff:ffff:{:04x}")]
+    hops.write_text(text(f"{number} {words}" for number, words in enumerate(ways, 1)))
+    other.write_text("")
+    routes = [f"10.{at}.0.0/16 {hop}" for at, hop in enumerate((2, 1, "drop", 2))] + ["2001:db8::/48 2", "2001:db8:1::/48 drop"]
+    with namespace(*LAN) as own:
+        command = [*inside(own), FIB_KERNEL]
+        tool(*command, "load", str(hops), "77", given=text([*(f"install {route}" for route in routes), "ok"]))
+        for file, unknown in ((hops, None), (other, "4294967295")):
+            wanted = {" ".join(["have", net, hop if hop == "drop" else unknown or hop]) for net, hop in map(str.split, routes)}
+            same("the list", set(tool(*command, "list", str(file), "77").splitlines()) - {"ok"}, wanted)
+        other.write_text(f"1 {ways[0]} nexthop dev lan\n")
+        same("257 gateways", refused(*command, "list", str(other), "77").endswith("line 1: too many gateways"), True)
+        other.write_text("1 dev lan".ljust(1 << 16) + "\n")
+        same("a long line", refused(*command, "list", str(other), "77").endswith("line 1: too long"), True)
+
+
+WITHOUT_SIX = """
+#include <linux/rtnetlink.h>
+#include <sys/socket.h>
+#include <sys/syscall.h>
+#include <unistd.h>
+ssize_t sendto(int file, const void *data, size_t size, int flags, const struct sockaddr *to, socklen_t length)
+{
+    const struct nlmsghdr *head = data;
+    struct rtmsg *route = NLMSG_DATA(head);
+    if (head->nlmsg_type >= RTM_NEWROUTE && head->nlmsg_type <= RTM_GETROUTE && route->rtm_family == AF_INET6)
+        route->rtm_family = AF_X25;
+    return syscall(SYS_sendto, file, data, size, flags, to, length);
+}
+"""
+
+
+def check_without_six(folder):
+    """a kernel without IPv6 takes all routes of IPv4; here it gets messages for IPv6 as those of a family that it doesn't have"""
+    hops, shim = f"{folder}/way", f"{folder}/shim.so"
+    if shutil.which("cc") is None:
+        return print("passed over: a kernel without IPv6, since there is no cc")
+    tool("cc", "-x", "c", "-shared", "-fPIC", "-o", shim, "-", given=WITHOUT_SIX)
+    Path(hops).write_text("1 via 192.0.2.1 dev lan\n2 via fe80::2 dev lan\n")
+    six = [f"install 2001:db8:{at}::/48 {hop}" for at, hop in enumerate((2, "drop", 9))] + ["remove 2001:db8::/48"]
+    with namespace(*LAN) as own:
+        command = [*inside(own), "env", f"LD_PRELOAD={shim}", FIB_KERNEL]
+        for mode, given, wanted in (("list", "", ""), ("load", text([*six, "install 10.1.0.0/16 1"]), ""),
+                                    ("watch", text(six), "have 10.1.0.0/16 1\nok\n")):
+            done = subprocess.run([*command, mode, hops, "77"], input=f"{given}ok\n", capture_output=True, text=True)
+            said = "fib_kernel: the kernel has no IPv6, so networks of IPv6 are passed over\n" * bool(given)
+            same(f"`{mode}` without IPv6", [done.returncode, done.stdout, done.stderr], [0, f"{wanted}ok\n", said])
+
+
 def check(is_figures):
     needs("ip", "iproute2")
     needs(FIB_KERNEL, "libmnl-dev, after which `make -C netlink` builds it,")
@@ -1059,8 +1113,9 @@ def check(is_figures):
     with tempfile.TemporaryDirectory() as folder:
         hops = f"{folder}/hops"
         check_page(folder)
-        for one in (check_lines, check_refused, check_silent, check_events, check_shorter, check_families, check_sandbox, check_options,
-                    check_tries, check_permission, check_own, check_made_again, check_memory, check_measures):
+        for one in (check_lines, check_gateways, check_refused, check_silent, check_events, check_shorter, check_families,
+                    check_without_six, check_sandbox, check_options, check_tries, check_permission, check_own, check_made_again,
+                    check_memory, check_measures):
             one(folder)
             print(f"seen: {one.__doc__}")
         Path(hops).write_text(text(f"{hop} via fe80::{hop} dev lan" for hop in HOPS))
