@@ -635,6 +635,26 @@ def put_log(log, *changes):
         file.write(text([*changes, "ok"]))
 
 
+class Grow(threading.Thread):
+    """Adds a reply to a log every 0.3 s."""
+
+    def __init__(self, log):
+        super().__init__(daemon=True)
+        self.log, self.is_ending = log, False
+        self.start()
+
+    def run(self):
+        at = 0
+        while not self.is_ending:
+            put_log(self.log, f"set 10.200.{at % 256}.0/24 1")
+            at += 1
+            time.sleep(0.3)
+
+    def end(self):
+        self.is_ending = True
+        self.join()
+
+
 class Small:
     """A namespace, in which `keep` follows a log."""
 
@@ -647,6 +667,15 @@ class Small:
 
     def starts(self):
         return self.said.read_text().count("it begins again")
+
+    def syncs(self):
+        return self.said.read_text().count("first `sync`")
+
+    def end_one(self, at, how=signal.SIGKILL):
+        """Ends one of the programs: `routes_fib`, `fib_kernel` or `tail`. Then `keep` pauses."""
+        before = self.starts()
+        os.kill(children(self.keep.pid)[at], how)
+        wait_for("the end of the programs", lambda: self.starts() > before)
 
     def hops_of(self, *addresses):
         return self.asked.ask([packed(address) for address in addresses])
@@ -724,25 +753,38 @@ def check_events(folder):
 
 
 def check_shorter(folder):
-    """a leader's restart under a running `keep`: the log is emptied, or another file takes its name; only what differs turns"""
+    """a leader's restart while `keep` runs or pauses: the log is emptied, or another file takes its name; only what differs turns"""
     log = [f"set 10.{at}.0.0/16 {1 + at % 2}" for at in range(50)]
     addresses = [f"10.{at}.0.1" for at in range(50)]
     with small(folder, log=log) as chain:
         wait_for("all routes", lambda: None not in chain.hops_of(*addresses))
-        for is_new in (False, True):
+        for count, is_new, is_pause in ((49, False, False), (48, True, False), (47, True, True)):
             watch = Watch(chain.own, list(map(packed, addresses)))
             watch.start()
             wait_for("a round", lambda: watch.rounds)
+            if is_pause:
+                chain.end_one(1)
             if is_new:
                 os.rename(chain.log, f"{chain.log}.old")
             Path(chain.log).write_text("")
-            for at in range(0, 49 - is_new, 7):
-                put_log(chain.log, *log[at:min(at + 7, 49 - is_new)])
+            for at in range(0, count, 2):
+                put_log(chain.log, *log[at:min(at + 2, count)])
                 time.sleep(0.1)
-            expected = [1 + at % 2 if at < 49 - is_new else None for at in range(50)]
+            expected = [1 + at % 2 if at < count else None for at in range(50)]
             wait_for("the new table", lambda: chain.hops_of(*addresses) == expected)
             watch.end()
-            same("addresses that turned", [len(seen) > 1 for seen in watch.seen], [at == 49 - is_new for at in range(50)])
+            same("addresses that turned", [len(seen) > 1 for seen in watch.seen], [at == count for at in range(50)])
+
+
+def check_busy(folder):
+    """after a new start the first `sync` comes soon, though the log never rests"""
+    with small(folder, log=("set 10.1.0.0/16 1",)) as chain:
+        grow = Grow(chain.log)
+        for at in range(3):
+            syncs = chain.syncs()
+            chain.end_one(at)
+            wait_for("the first `sync` of a new start", lambda: chain.syncs() > syncs)
+        grow.end()
 
 
 def check_families(folder):
@@ -1059,8 +1101,8 @@ def check(is_figures):
     with tempfile.TemporaryDirectory() as folder:
         hops = f"{folder}/hops"
         check_page(folder)
-        for one in (check_lines, check_refused, check_silent, check_events, check_shorter, check_families, check_sandbox, check_options,
-                    check_tries, check_permission, check_own, check_made_again, check_memory, check_measures):
+        for one in (check_lines, check_refused, check_silent, check_events, check_shorter, check_busy, check_families, check_sandbox,
+                    check_options, check_tries, check_permission, check_own, check_made_again, check_memory, check_measures):
             one(folder)
             print(f"seen: {one.__doc__}")
         Path(hops).write_text(text(f"{hop} via fe80::{hop} dev lan" for hop in HOPS))
