@@ -19,6 +19,7 @@ import time
 from collections import Counter
 from pathlib import Path
 from typing import NamedTuple
+from unittest import mock
 
 from common import FIB_KERNEL, INSTALLER, PROGRAM, Page, any_addresses, bird, fault, namespace, needs, refused, same, text, tool
 
@@ -787,6 +788,19 @@ def check_busy(folder):
         grow.end()
 
 
+def check_polling(folder):
+    """where no more inotify instances are left, `tail` looks at the log each second, and `keep` goes on"""
+    tail = Path(folder, "tools", "tail")
+    tail.parent.mkdir()
+    tail.write_text("#!/bin/sh\necho 'tail: inotify cannot be used, reverting to polling: Too many open files' >&2\n"
+                    f'exec {shutil.which("tail")} ---disable-inotify "$@"\n')
+    tail.chmod(0o755)
+    with mock.patch.dict(os.environ, PATH=f"{tail.parent}:{os.environ['PATH']}"), small(folder, log=("set 10.1.0.0/16 1",)) as chain:
+        put_log(chain.log, "set 10.2.0.0/16 1")
+        chain.wait(_1=1, _2=1)
+        same("new starts, and lines of `tail`", [chain.starts(), chain.said.read_text().count("inotify")], [0, 1])
+
+
 def check_families(folder):
     """a family without the table, that is switched off, or without sockets does not stop the other one"""
     with small(folder, families=(socket.AF_INET6,), log=("set 10.1.0.0/16 1",)) as chain:
@@ -1101,8 +1115,8 @@ def check(is_figures):
     with tempfile.TemporaryDirectory() as folder:
         hops = f"{folder}/hops"
         check_page(folder)
-        for one in (check_lines, check_refused, check_silent, check_events, check_shorter, check_busy, check_families, check_sandbox,
-                    check_options, check_tries, check_permission, check_own, check_made_again, check_memory, check_measures):
+        for one in (check_lines, check_refused, check_silent, check_events, check_shorter, check_busy, check_polling, check_families,
+                    check_sandbox, check_options, check_tries, check_permission, check_own, check_made_again, check_memory, check_measures):
             one(folder)
             print(f"seen: {one.__doc__}")
         Path(hops).write_text(text(f"{hop} via fe80::{hop} dev lan" for hop in HOPS))
