@@ -716,10 +716,11 @@ def check_refused(folder):
 def check_silent(folder):
     """after the end of one of its programs `keep` begins again, though the log is silent; after a kill of `keep` none is left"""
     with small(folder, log=("set 10.1.0.0/16 1",)) as chain:
-        for at in range(3):
+        for at, how in ((0, signal.SIGKILL), (1, signal.SIGKILL), (2, signal.SIGKILL), (1, signal.SIGTERM)):
+            wait_for("the first `sync`", lambda: chain.syncs() > chain.starts())
             chain.wait(_1=1)
             before = children(chain.keep.pid)
-            os.kill(before[at], signal.SIGKILL)
+            chain.end_one(at, how)
             wait_for("three other programs", lambda: len(set(children(chain.keep.pid)) - set(before)) == 3)
         chain.wait(_1=1)
         left = children(chain.keep.pid)
