@@ -620,11 +620,24 @@ def check_rules(page, own):
 def check_bird(folder, page, control):
     """A route of BIRD's comes, and the next takes over."""
     before, of_bird = show(page), "198.51.100.0/24 via 192.0.2.{} dev lan proto 77\n"
+    check_append(folder, page.blocks[0].partition("until birdc")[0])
     with background(page):
         shows(page, before + of_bird.format(1))
         Path(folder, "bird.conf").write_text(START + WEST)
         tool("birdc", "-s", control, "configure")
         shows(page, before + of_bird.format(2))
+
+
+def check_append(folder, function):
+    """The page's `append` writes all lines to a disk that was full within one of them. The leader rejects what was cut off."""
+    lines, place = text(f"add 10.0.{at}.0/24 12 100" for at in range(200)), Path(folder, "full")
+    place.mkdir()
+    Path(folder, "lines").write_text(lines)
+    script = f"""mount -t tmpfs -o size=16k none "{place}"; cd "{place}"; head -c 12288 /dev/zero > filler; touch commands
+        (sleep 2; rm filler) & {function}
+        append "{folder}/lines"; cat commands"""
+    cut, end, whole = tool("unshare", "-rm", "bash", "-euc", script).partition(" cut\n")
+    same("lines on a full disk", [lines.startswith(cut), len(cut), end, whole], [True, 4096, " cut\n", lines])
 
 
 LAN = ("address add 192.0.2.254/24 dev lan", "rule add pref 100 lookup main suppress_prefixlength 0", "rule add pref 101 lookup 77")
