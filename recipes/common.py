@@ -97,8 +97,9 @@ def put_bytes(held):
     if sys.stdout is None:
         fault("standard output is closed")
     with naming("standard output"):
-        sys.stdout.buffer.write(held)
         sys.stdout.flush()
+        while held:
+            held = held[os.write(sys.stdout.fileno(), held):]
 
 
 def pass_over(text):
