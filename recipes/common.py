@@ -346,11 +346,13 @@ class Numbers:
         return [renumbered(line, moved) for line in lines] if moved else lines
 
     def write(self):
-        """Replaces the old file with the new one in one step."""
+        """Replaces the old file with the new one in one step, once the new one is on the disk."""
         new = f"{self.path}.new"
         try:
             with naming(new), open(new, "w") as file:
                 file.writelines(f"{number} {name}\n" for name, number in self.of_name.items())
+                file.flush()
+                os.fsync(file.fileno())
         except OSError:
             Path(new).unlink(missing_ok=True)
             raise
