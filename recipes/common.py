@@ -298,10 +298,13 @@ def replies_of(file):
 
 @contextlib.contextmanager
 def locked(path):
-    """Until the end no other run has the file. Another file may have taken its place while this one waited."""
+    """Until the end no other run has the file, which is made if it isn't there. Another file may have taken its place while this one
+    waited. No link is followed to make it: root may write where another user does."""
     is_ours = False
     while not is_ours:
-        with open(path, "a") as file:
+        with contextlib.suppress(FileExistsError):
+            open(path, "x").close()
+        with open(path, "r+") as file:
             fcntl.flock(file, fcntl.LOCK_EX)
             is_ours = os.path.exists(path) and os.path.samestat(os.fstat(file.fileno()), os.stat(path))
             if is_ours:
@@ -346,10 +349,12 @@ class Numbers:
         return [renumbered(line, moved) for line in lines] if moved else lines
 
     def write(self):
-        """Replaces the old file with the new one in one step, once the new one is on the disk."""
+        """Replaces the old file with the new one in one step, once the new one is on the disk. Daemons of another user can read it."""
         new = f"{self.path}.new"
+        Path(new).unlink(missing_ok=True)
         try:
-            with naming(new), open(new, "w") as file:
+            with naming(new), open(new, "x") as file:
+                os.fchmod(file.fileno(), os.stat(file.fileno()).st_mode | 0o444)
                 file.writelines(f"{number} {name}\n" for name, number in self.of_name.items())
                 file.flush()
                 os.fsync(file.fileno())
