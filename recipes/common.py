@@ -60,9 +60,17 @@ def installed_usage(usage):
     return re.sub(r"recipes/([a-z-]+)(?![\w.-])", r"jolmidda-\1", usage).replace(" recipes/", f" {HERE}/")
 
 
+def end_by_signal(number, _):
+    """The status is that of a program that the signal ends."""
+    with contextlib.suppress(OSError):
+        if sys.stderr:
+            os.write(sys.stderr.fileno(), f"{NAME}: ended by a signal\n".encode())
+    sys.exit(128 + number)
+
+
 def run(main):
     """Runs a recipe. For a file that can't be opened it prints the name, and for wrong arguments the usage."""
-    signal.signal(signal.SIGTERM, lambda *_: fault("ended by a signal"))
+    signal.signal(signal.SIGTERM, end_by_signal)
     usage = installed_usage(sys.modules["__main__"].__doc__)
     try:
         if sys.argv[1:] in (["--help"], ["-h"]):

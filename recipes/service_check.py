@@ -167,6 +167,7 @@ def check_status(folder, run, daemons):
     print("refused:", refused(sys.argv[0], "lead", folder, "/none"))
     print(tool(sys.argv[0], "status", run), end="")
     daemons["keep"].end()
+    same("the status of a stop", daemons["keep"].process.returncode, 143)
     with open(f"{folder}/commands", "a") as file:
         file.write("add 10.0.0.0/8 1\nnonsense\n")
     lost = {'jolmidda_up{part="keep"}': "0", 'jolmidda_up{part="lead"}': "1", 'jolmidda_rejected_total{part="lead"}': "1"}
@@ -179,6 +180,7 @@ def check_status(folder, run, daemons):
 def check_other_commands(folder, run, daemons):
     """Shorter and other commands: a new log takes the old one's place, and the kernel follows."""
     daemons["lead"].end()
+    same("the status of a stop", daemons["lead"].process.returncode, 143)
     Path(folder, "commands").write_text("add 10.0.0.0/8 1\nadd 10.0.0.0/9 2\n")
     daemons |= {unit: Daemon(unit, folder, run) for unit in ("lead", "keep")}
     await_leader(folder, "other commands")
