@@ -186,6 +186,14 @@ def check_other_commands(folder, run, daemons):
     await_leader(folder, "other commands")
 
 
+def check_silenced(run):
+    """A standard error that takes nothing ends neither the daemon nor a program of it, and the state has the last line."""
+    code = "import os, sys, state; state.State(sys.argv[1]); sys.exit(any(os.system('exec echo line >&2') for _ in range(2)))"
+    with open("/dev/full", "w") as full:
+        done = subprocess.run([sys.executable, "-c", code, f"{run}/silenced"], env=os.environ | {"PYTHONPATH": str(HERE)}, stderr=full)
+    same("without a standard error", [done.returncode, Path(run, "silenced").read_text().split()[2]], [0, "line"])
+
+
 def check_units(folder):
     if not shutil.which("systemd-analyze"):
         return print("skipped the units: there is no systemd-analyze")
@@ -224,6 +232,7 @@ def check(seconds="60"):
             tool("ip", *line.split())
         Path(folder, "hops").write_text("".join(f"{hop} via 192.0.2.{hop} dev lan\n" for hop in range(1, 5)))
         check_units(run)
+        check_silenced(run)
         print("refused:", refused(sys.argv[0], "status", run))
         print("refused:", refused(sys.argv[0], "lead", "/none", run))
         daemons = {unit: Daemon(unit, folder, run) for unit in UNITS}
