@@ -303,6 +303,13 @@ def replies_of(file):
     return taken(lines_of(file, "the leader's output", REPLIES))
 
 
+def alone(file):
+    """No other run may have this file, until it is closed."""
+    try:
+        fcntl.flock(file, fcntl.LOCK_EX | fcntl.LOCK_NB)
+    except BlockingIOError:
+        fault(f"{file.name}: another run has this file")
+
 
 @contextlib.contextmanager
 def locked(path):
