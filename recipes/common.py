@@ -60,9 +60,17 @@ def installed_usage(usage):
     return re.sub(r"recipes/([a-z-]+)(?![\w.-])", r"jolmidda-\1", usage).replace(" recipes/", f" {HERE}/")
 
 
+def end_by_signal(number, _):
+    """The status is that of a program that the signal ends."""
+    with contextlib.suppress(OSError):
+        if sys.stderr:
+            os.write(sys.stderr.fileno(), f"{NAME}: ended by a signal\n".encode())
+    sys.exit(128 + number)
+
+
 def run(main):
     """Runs a recipe. For a file that can't be opened it prints the name, and for wrong arguments the usage."""
-    signal.signal(signal.SIGTERM, lambda *_: fault("ended by a signal"))
+    signal.signal(signal.SIGTERM, end_by_signal)
     usage = installed_usage(sys.modules["__main__"].__doc__)
     try:
         if sys.argv[1:] in (["--help"], ["-h"]):
@@ -97,8 +105,9 @@ def put_bytes(held):
     if sys.stdout is None:
         fault("standard output is closed")
     with naming("standard output"):
-        sys.stdout.buffer.write(held)
         sys.stdout.flush()
+        while held:
+            held = held[os.write(sys.stdout.fileno(), held):]
 
 
 def pass_over(text):
@@ -294,13 +303,23 @@ def replies_of(file):
     return taken(lines_of(file, "the leader's output", REPLIES))
 
 
+def alone(file):
+    """No other run may have this file, until it is closed."""
+    try:
+        fcntl.flock(file, fcntl.LOCK_EX | fcntl.LOCK_NB)
+    except BlockingIOError:
+        fault(f"{file.name}: another run has this file")
+
 
 @contextlib.contextmanager
 def locked(path):
-    """Until the end no other run has the file. Another file may have taken its place while this one waited."""
+    """Until the end no other run has the file, which is made if it isn't there. Another file may have taken its place while this one
+    waited. No link is followed to make it: root may write where another user does."""
     is_ours = False
     while not is_ours:
-        with open(path, "a") as file:
+        with contextlib.suppress(FileExistsError):
+            open(path, "x").close()
+        with open(path, "r+") as file:
             fcntl.flock(file, fcntl.LOCK_EX)
             is_ours = os.path.exists(path) and os.path.samestat(os.fstat(file.fileno()), os.stat(path))
             if is_ours:
@@ -345,11 +364,15 @@ class Numbers:
         return [renumbered(line, moved) for line in lines] if moved else lines
 
     def write(self):
-        """Replaces the old file with the new one in one step."""
+        """Replaces the old file with the new one in one step, once the new one is on the disk. Daemons of another user can read it."""
         new = f"{self.path}.new"
+        Path(new).unlink(missing_ok=True)
         try:
-            with naming(new), open(new, "w") as file:
+            with naming(new), open(new, "x") as file:
+                os.fchmod(file.fileno(), os.stat(file.fileno()).st_mode | 0o444)
                 file.writelines(f"{number} {name}\n" for name, number in self.of_name.items())
+                file.flush()
+                os.fsync(file.fileno())
         except OSError:
             Path(new).unlink(missing_ok=True)
             raise

@@ -19,6 +19,7 @@ import time
 from collections import Counter
 from pathlib import Path
 from typing import NamedTuple
+from unittest import mock
 
 from common import FIB_KERNEL, INSTALLER, PROGRAM, Page, any_addresses, bird, fault, namespace, needs, refused, same, text, tool
 
@@ -619,11 +620,24 @@ def check_rules(page, own):
 def check_bird(folder, page, control):
     """A route of BIRD's comes, and the next takes over."""
     before, of_bird = show(page), "198.51.100.0/24 via 192.0.2.{} dev lan proto 77\n"
+    check_append(folder, page.blocks[0].partition("until birdc")[0])
     with background(page):
         shows(page, before + of_bird.format(1))
         Path(folder, "bird.conf").write_text(START + WEST)
         tool("birdc", "-s", control, "configure")
         shows(page, before + of_bird.format(2))
+
+
+def check_append(folder, function):
+    """The page's `append` writes all lines to a disk that was full within one of them. The leader rejects what was cut off."""
+    lines, place = text(f"add 10.0.{at}.0/24 12 100" for at in range(200)), Path(folder, "full")
+    place.mkdir()
+    Path(folder, "lines").write_text(lines)
+    script = f"""mount -t tmpfs -o size=16k none "{place}"; cd "{place}"; head -c 12288 /dev/zero > filler; touch commands
+        (sleep 2; rm filler) & {function}
+        append "{folder}/lines"; cat commands"""
+    cut, end, whole = tool("unshare", "-rm", "bash", "-euc", script).partition(" cut\n")
+    same("lines on a full disk", [lines.startswith(cut), len(cut), end, whole], [True, 4096, " cut\n", lines])
 
 
 LAN = ("address add 192.0.2.254/24 dev lan", "rule add pref 100 lookup main suppress_prefixlength 0", "rule add pref 101 lookup 77")
@@ -633,6 +647,26 @@ def put_log(log, *changes):
     """Adds a reply with these changes to a log."""
     with open(log, "a") as file:
         file.write(text([*changes, "ok"]))
+
+
+class Grow(threading.Thread):
+    """Adds a reply to a log every 0.3 s."""
+
+    def __init__(self, log):
+        super().__init__(daemon=True)
+        self.log, self.is_ending = log, False
+        self.start()
+
+    def run(self):
+        at = 0
+        while not self.is_ending:
+            put_log(self.log, f"set 10.200.{at % 256}.0/24 1")
+            at += 1
+            time.sleep(0.3)
+
+    def end(self):
+        self.is_ending = True
+        self.join()
 
 
 class Small:
@@ -647,6 +681,15 @@ class Small:
 
     def starts(self):
         return self.said.read_text().count("it begins again")
+
+    def syncs(self):
+        return self.said.read_text().count("first `sync`")
+
+    def end_one(self, at, how=signal.SIGKILL):
+        """Ends one of the programs: `routes_fib`, `fib_kernel` or `tail`. Then `keep` pauses."""
+        before = self.starts()
+        os.kill(children(self.keep.pid)[at], how)
+        wait_for("the end of the programs", lambda: self.starts() > before)
 
     def hops_of(self, *addresses):
         return self.asked.ask([packed(address) for address in addresses])
@@ -686,10 +729,11 @@ def check_refused(folder):
 def check_silent(folder):
     """after the end of one of its programs `keep` begins again, though the log is silent; after a kill of `keep` none is left"""
     with small(folder, log=("set 10.1.0.0/16 1",)) as chain:
-        for at in range(3):
+        for at, how in ((0, signal.SIGKILL), (1, signal.SIGKILL), (2, signal.SIGKILL), (1, signal.SIGTERM)):
+            wait_for("the first `sync`", lambda: chain.syncs() > chain.starts())
             chain.wait(_1=1)
             before = children(chain.keep.pid)
-            os.kill(before[at], signal.SIGKILL)
+            chain.end_one(at, how)
             wait_for("three other programs", lambda: len(set(children(chain.keep.pid)) - set(before)) == 3)
         chain.wait(_1=1)
         left = children(chain.keep.pid)
@@ -724,25 +768,51 @@ def check_events(folder):
 
 
 def check_shorter(folder):
-    """a leader's restart under a running `keep`: the log is emptied, or another file takes its name; only what differs turns"""
+    """a leader's restart while `keep` runs or pauses: the log is emptied, or another file takes its name; only what differs turns"""
     log = [f"set 10.{at}.0.0/16 {1 + at % 2}" for at in range(50)]
     addresses = [f"10.{at}.0.1" for at in range(50)]
     with small(folder, log=log) as chain:
         wait_for("all routes", lambda: None not in chain.hops_of(*addresses))
-        for is_new in (False, True):
+        for count, is_new, is_pause in ((49, False, False), (48, True, False), (47, True, True)):
             watch = Watch(chain.own, list(map(packed, addresses)))
             watch.start()
             wait_for("a round", lambda: watch.rounds)
+            if is_pause:
+                chain.end_one(1)
             if is_new:
                 os.rename(chain.log, f"{chain.log}.old")
             Path(chain.log).write_text("")
-            for at in range(0, 49 - is_new, 7):
-                put_log(chain.log, *log[at:min(at + 7, 49 - is_new)])
+            for at in range(0, count, 2):
+                put_log(chain.log, *log[at:min(at + 2, count)])
                 time.sleep(0.1)
-            expected = [1 + at % 2 if at < 49 - is_new else None for at in range(50)]
+            expected = [1 + at % 2 if at < count else None for at in range(50)]
             wait_for("the new table", lambda: chain.hops_of(*addresses) == expected)
             watch.end()
-            same("addresses that turned", [len(seen) > 1 for seen in watch.seen], [at == 49 - is_new for at in range(50)])
+            same("addresses that turned", [len(seen) > 1 for seen in watch.seen], [at == count for at in range(50)])
+
+
+def check_busy(folder):
+    """after a new start the first `sync` comes soon, though the log never rests"""
+    with small(folder, log=("set 10.1.0.0/16 1",)) as chain:
+        grow = Grow(chain.log)
+        for at in range(3):
+            syncs = chain.syncs()
+            chain.end_one(at)
+            wait_for("the first `sync` of a new start", lambda: chain.syncs() > syncs)
+        grow.end()
+
+
+def check_polling(folder):
+    """where no more inotify instances are left, `tail` looks at the log each second, and `keep` goes on"""
+    tail = Path(folder, "tools", "tail")
+    tail.parent.mkdir()
+    tail.write_text("#!/bin/sh\necho 'tail: inotify cannot be used, reverting to polling: Too many open files' >&2\n"
+                    f'exec {shutil.which("tail")} ---disable-inotify "$@"\n')
+    tail.chmod(0o755)
+    with mock.patch.dict(os.environ, PATH=f"{tail.parent}:{os.environ['PATH']}"), small(folder, log=("set 10.1.0.0/16 1",)) as chain:
+        put_log(chain.log, "set 10.2.0.0/16 1")
+        chain.wait(_1=1, _2=1)
+        same("new starts, and lines of `tail`", [chain.starts(), chain.said.read_text().count("inotify")], [0, 1])
 
 
 def check_families(folder):
@@ -1113,9 +1183,9 @@ def check(is_figures):
     with tempfile.TemporaryDirectory() as folder:
         hops = f"{folder}/hops"
         check_page(folder)
-        for one in (check_lines, check_gateways, check_refused, check_silent, check_events, check_shorter, check_families,
-                    check_without_six, check_sandbox, check_options, check_tries, check_permission, check_own, check_made_again,
-                    check_memory, check_measures):
+        for one in (check_lines, check_gateways, check_refused, check_silent, check_events, check_shorter, check_busy, check_polling,
+                    check_families, check_without_six, check_sandbox, check_options, check_tries, check_permission, check_own,
+                    check_made_again, check_memory, check_measures):
             one(folder)
             print(f"seen: {one.__doc__}")
         Path(hops).write_text(text(f"{hop} via fe80::{hop} dev lan" for hop in HOPS))

@@ -129,8 +129,8 @@ def check_wrong(machines, page):
     before = Path(page.folder, "other").read_bytes()
     inner = " ".join(inside(machines.own))
     for words in (f"send {url} routes other", f"receive {url} routes other", f"send {url} routes short", f"send {url} routes nosuch",
-                  "send nonsense routes log", f"receive {url} routes nosuch/copy"):
-        page.refuses(f"{inner} recipes/redis {words}")
+                  "send nonsense routes log", f"receive {url} routes nosuch/copy", f"receive {url} routes copy"):
+        page.refuses(f"timeout 60 {inner} recipes/redis {words}")
     for name, new in (("cut", "truncate -s 10 log.{0}"), ("replaced", "cp log.{0} log.new; mv log.new log.{0}"), ("begun", "echo ok > log.{0}")):
         Path(page.folder, f"log.{name}").write_text("set 10.0.0.0/8 9\nok\n" * 100)
         machines.start(name, f"recipes/redis send {url} {name} log.{name}")

@@ -167,6 +167,7 @@ def check_status(folder, run, daemons):
     print("refused:", refused(sys.argv[0], "lead", folder, "/none"))
     print(tool(sys.argv[0], "status", run), end="")
     daemons["keep"].end()
+    same("the status of a stop", daemons["keep"].process.returncode, 143)
     with open(f"{folder}/commands", "a") as file:
         file.write("add 10.0.0.0/8 1\nnonsense\n")
     lost = {'jolmidda_up{part="keep"}': "0", 'jolmidda_up{part="lead"}': "1", 'jolmidda_rejected_total{part="lead"}': "1"}
@@ -179,9 +180,18 @@ def check_status(folder, run, daemons):
 def check_other_commands(folder, run, daemons):
     """Shorter and other commands: a new log takes the old one's place, and the kernel follows."""
     daemons["lead"].end()
+    same("the status of a stop", daemons["lead"].process.returncode, 143)
     Path(folder, "commands").write_text("add 10.0.0.0/8 1\nadd 10.0.0.0/9 2\n")
     daemons |= {unit: Daemon(unit, folder, run) for unit in ("lead", "keep")}
     await_leader(folder, "other commands")
+
+
+def check_silenced(run):
+    """A standard error that takes nothing ends neither the daemon nor a program of it, and the state has the last line."""
+    code = "import os, sys, state; state.State(sys.argv[1]); sys.exit(any(os.system('exec echo line >&2') for _ in range(2)))"
+    with open("/dev/full", "w") as full:
+        done = subprocess.run([sys.executable, "-c", code, f"{run}/silenced"], env=os.environ | {"PYTHONPATH": str(HERE)}, stderr=full)
+    same("without a standard error", [done.returncode, Path(run, "silenced").read_text().split()[2]], [0, "line"])
 
 
 def check_units(folder):
@@ -222,6 +232,7 @@ def check(seconds="60"):
             tool("ip", *line.split())
         Path(folder, "hops").write_text("".join(f"{hop} via 192.0.2.{hop} dev lan\n" for hop in range(1, 5)))
         check_units(run)
+        check_silenced(run)
         print("refused:", refused(sys.argv[0], "status", run))
         print("refused:", refused(sys.argv[0], "lead", "/none", run))
         daemons = {unit: Daemon(unit, folder, run) for unit in UNITS}

@@ -1,6 +1,7 @@
 """The state of a daemon, in a file that `recipes/service status` reads."""
 import atexit
 import collections
+import contextlib
 import os
 import re
 import sys
@@ -26,8 +27,10 @@ class State:
         atexit.register(self.end)
 
     def copy(self, said):
+        """Programs that write here go on, though nobody takes their lines."""
         for line in said:
-            self.error.write(line)
+            with contextlib.suppress(OSError):
+                self.error.write(line)
             self.values["error"] = f"{time.time():.0f} {line.decode(errors='backslashreplace').strip()}"
 
     def repeat(self):
