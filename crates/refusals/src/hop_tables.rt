@@ -85,8 +85,8 @@ fn answer_table(rt: &HostRuntime, outcome: Result<HopTable, Refused>) {
     }
 }
 
-/// Changes in both families, some inside others. The quarters of 10.0.0.0/10 get four hops, and the other half of 10.0.0.0/9 has a route
-/// of its own, so the computation copies a list of four hops.
+/// Changes in both families, some inside others. The quarters of 10.0.0.0/10 get four hops. The other half of 10.0.0.0/9 has a route of
+/// its own, so the computation copies a list of four hops.
 const CHANGES: [(&str, Hop); 8] = [
     ("10.0.0.0/12", Hop::Number(4)),
     ("10.16.0.0/12", Hop::Number(5)),
