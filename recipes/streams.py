@@ -14,6 +14,7 @@ from common import NETWORK, Numbers, fault, line_shown, locked, naming, text
 
 MOST, HIGHEST = 8, 65535
 TURN, QUIET = 0.25, 30  # seconds: one look at the stream; without a route, after which a dump is over
+LONGEST = 40  # times QUIET, or a longer rest: the seconds from its first route after which a dump without a rest is over
 COMMAND = re.compile(r"(add|del) ({}) (\d+|drop)(?: (\d+))?".format(NETWORK.pattern))
 CUT = re.compile(r"(?:add?|a|del?|d)(?: [0-9a-f:./]*(?: [drop0-9]*(?: \d*)?)?)?")
 
@@ -75,7 +76,7 @@ class Table:
 
     def __init__(self, hops, commands, source=None):
         self.hops, self.commands, self.lines, self.routes = Hops(hops), commands, [], {}
-        self.dump, self.is_dump, self.is_whole, self.last = 1, True, False, None
+        self.dump, self.is_dump, self.is_whole, self.first, self.last = 1, True, False, None, None
         self.ways, self.waiting, self.tried = {}, {}, 0
         self.file = self.opened()
         for network, held in self.stored().items():
@@ -133,6 +134,7 @@ class Table:
     def hear(self):
         """Something of the dump came."""
         self.last = time.monotonic()
+        self.first = self.first or self.last
 
     def change(self, network, source, route):
         self.hear()
@@ -158,7 +160,7 @@ class Table:
 
     def begin(self):
         """A dump begins: what it doesn't have is to go when it ends."""
-        self.dump, self.is_dump, self.last = self.dump + 1, True, None
+        self.dump, self.is_dump, self.first, self.last = self.dump + 1, True, None, None
 
     def end(self):
         """The dump is over: routes that it did not have go."""
@@ -186,14 +188,18 @@ class Table:
                 for (network, source), worth in list(held.items()) if way(*key) else ():
                     self.reach(network, source, key[0], worth)
 
+    def is_over(self, quiet):
+        """Whether the dump is over: no route came for these seconds, or routes have come for far longer without such a rest."""
+        now = time.monotonic()
+        return self.is_dump and self.last and (now - self.last >= quiet or now - self.first >= LONGEST * max(quiet, QUIET))
+
     def pieces(self, file, quiet=QUIET, turn=lambda: TURN):
-        """The pieces of a stream as they come, until it ends. After each one the commands are written. A dump is over after quiet
-        seconds."""
+        """The pieces of a stream as they come, until it ends. After each one the commands are written."""
         piece = b"-"
         while piece:
             seconds = turn()
             self.again()
-            if self.is_dump and self.last and time.monotonic() - self.last >= quiet:
+            if self.is_over(quiet):
                 self.end()
             self.flush()
             if select.select([file], [], [], seconds)[0]:

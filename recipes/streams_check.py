@@ -16,6 +16,7 @@ import time
 from pathlib import Path
 
 import netlink
+import streams
 from common import HERE, Numbers, Page, any_addresses, bird, ends, fault, hops_of, namespace, needs, same, text, tool
 from live_check import inside, socket_in, wait_for
 from streams import COMMAND
@@ -531,7 +532,26 @@ def gobgp_inputs(chain):
     done = subprocess.run([*inside(chain.own), "recipes/gobgp", "feed", "hops.new", "commands.new"], input=f"[{path}]\n[", text=True,
                           capture_output=True, cwd=chain.folder)
     same("a line that is cut off", [done.returncode, Path(chain.folder, "commands.new").read_text()], [1, "add 10.0.0.0/8 1 100\n"])
+    never_rests(chain.folder)
     wrong_files(chain, "gobgp")
+
+
+def never_rests(folder):
+    """A source that never rests: after the longest time, here three seconds, the routes that it did not send go."""
+    commands, (reader, writer) = Path(folder, "commands.restless"), os.pipe()
+    commands.write_text("add 10.9.0.0/16 1 100\n")
+    table = streams.Table(f"{folder}/hops.restless", commands)
+    longest, streams.LONGEST = streams.LONGEST, 0.1
+    os.write(writer, b"-")
+    for _, _ in zip(range(3000), table.pieces(os.fdopen(reader, "rb"))):
+        table.put("10.0.0.0/8", "peer", "via 192.0.2.1 dev lan")
+        if not table.is_dump:
+            break
+        time.sleep(0.01)
+        os.write(writer, b"-")
+    streams.LONGEST = longest
+    os.close(writer)
+    same("routes after the longest time", commands.read_text(), "add 10.9.0.0/16 1 100\nadd 10.0.0.0/8 1 100\ndel 10.9.0.0/16 1\n")
 
 
 BGPD = """router bgp 64500
