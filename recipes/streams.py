@@ -16,7 +16,7 @@ MOST, HIGHEST = 8, 65535
 TURN, QUIET = 0.25, 30  # seconds: one look at the stream; without a route, after which a dump is over
 LONGEST = 40  # times QUIET, or a longer rest: the seconds from its first route after which a dump without a rest is over
 COMMAND = re.compile(r"(add|del) ({}) (\d+|drop)(?: (\d+))?".format(NETWORK.pattern))
-CUT = re.compile(r"(?:add?|a|del?|d)(?: [0-9a-f:./]*(?: [drop0-9]*(?: \d*)?)?)?")
+CUT = re.compile(r"(?:add?|a|del?|d)(?: [0-9a-f:./]*(?: [drop0-9]*(?: \d*)?)?)?(?: c?u?t?)*")
 
 
 def say(words):
@@ -92,12 +92,12 @@ class Table:
         return file
 
     def stored(self):
-        """The preference of each hop of each network, after the commands of the file. If the last line was cut off, as by a full disk, it
-        gets its end; the leader has read the rest of it."""
+        """The preference of each hop of each network, after the commands of the file. If the last line was cut off, as by a full disk, its
+        end is the word `cut`: the leader has read the rest of it, which may be another command, and answers `bad` to the line."""
         found, line = {}, ""
         self.file.seek(0)
         for at, line in enumerate(self.file, 1):
-            command = COMMAND.fullmatch(line.rstrip("\n"))
+            command = COMMAND.fullmatch(line[:-1]) if line[-1] == "\n" else None
             if command:
                 word, network, hop, preference = command.groups()
                 hop, held = hop if hop == "drop" else int(hop), found.setdefault(network, {})
@@ -107,7 +107,7 @@ class Table:
             elif not CUT.fullmatch(line.rstrip("\n")):
                 fault(f"line {at} of {self.commands}: not a command of a recipe: {line_shown(line.rstrip())}")
         if line and line[-1] != "\n":
-            self.file.write("\n")
+            self.file.write(" cut\n")
         return {network: held for network, held in found.items() if held}
 
     def put(self, network, source, words, worth=100):

@@ -456,12 +456,15 @@ def exabgp_inputs(chain):
 
 
 def cut_off(chain, command):
-    """A last line without its end gets it, and the next start passes it over."""
+    """A last line without its end becomes one to which the leader answers `bad`, and the next starts pass it over."""
     path = Path(chain.folder, "commands.new")
-    path.write_text("add 10.0.0.0/8 1 100\nadd 10.1.0.0/1")
-    for _ in range(2):
-        chain.page.run(f"{command} < /dev/null")
-    same("a line that was cut off", path.read_text(), "add 10.0.0.0/8 1 100\nadd 10.1.0.0/1\n")
+    for line in ("a", "add 10.1.0.0/1", "add 10.1.0.0/16 1", "add 10.1.0.0/16 2 1", "add 10.1.0.0/16 drop", "add 10.1.0.0/16 2 100",
+                 "del 10.0.0.0/8 1", "del 10.0.0.0/8 2 c"):
+        path.write_text(f"add 10.0.0.0/8 1 100\n{line}")
+        for _ in range(2):
+            chain.page.run(f"{command} < /dev/null")
+        same("a line that was cut off", path.read_text(), f"add 10.0.0.0/8 1 100\n{line} cut\n")
+        same(f"the replies to the line {line} cut", chain.page.run(f"routes lead < {path}"), "set 10.0.0.0/8 1\nok\nbad\n")
 
 
 def gobgp():
