@@ -66,7 +66,7 @@ def way(address, is_six):
     found = json.loads(done.stdout)[0] if done.returncode == 0 else {}
     if "dev" not in found or "type" in found:
         return None
-    gateway = found.get("gateway", address)
+    gateway = found.get("gateway") or found.get("via", {}).get("host", address)
     return f"via {'inet6 ' if ':' in gateway and not is_six else ''}{gateway} dev {found['dev']}"
 
 

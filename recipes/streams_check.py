@@ -535,6 +535,12 @@ def gobgp_inputs(chain):
     done = subprocess.run([*inside(chain.own), "recipes/gobgp", "feed", "hops.new", "commands.new"], input=f"[{path}]\n[", text=True,
                           capture_output=True, cwd=chain.folder)
     same("a line that is cut off", [done.returncode, Path(chain.folder, "commands.new").read_text()], [1, "add 10.0.0.0/8 1 100\n"])
+    tool("ip", "-n", chain.own, "route", "add", "203.0.113.0/24", "via", "inet6", "2001:db8:5::77", "dev", "lan")
+    far = f"[{path.replace('192.0.2.1', '203.0.113.9')}]\n"
+    subprocess.run([*inside(chain.own), "recipes/gobgp", "feed", "hops.new", "commands.new"], input=far, text=True, capture_output=True,
+                   cwd=chain.folder)
+    same("the words of a next hop behind an IPv6 gateway", Path(chain.folder, "hops.new").read_text().splitlines()[1:],
+         ["2 via inet6 2001:db8:5::77 dev lan"])
     never_rests(chain.folder)
     wrong_files(chain, "gobgp")
 
