@@ -7,9 +7,10 @@ from typing import NamedTuple, Optional
 
 NEWROUTE, DELROUTE, GETROUTE = 24, 25, 26
 UNICAST, DROPS = 1, (6, 7, 8)  # rtm_type: RTN_UNICAST; RTN_BLACKHOLE, RTN_UNREACHABLE, RTN_PROHIBIT
-DST, OIF, GATEWAY, PRIORITY, MULTIPATH, TABLE, VIA, NH_ID = 1, 4, 5, 6, 9, 15, 18, 30  # rta_type
+DST, OIF, GATEWAY, PRIORITY, MULTIPATH, TABLE, VIA, ENCAP, NH_ID = 1, 4, 5, 6, 9, 15, 18, 22, 30  # rta_type
 DEAD, ONLINK, CLONED = 1, 4, 0x200  # rtm_flags
 LINK_LOCAL = bytes.fromhex("fe80")
+ENCAPSULATED = "encap"  # the words of a route with labels, segments or a tunnel for its packets
 HEADER, ROUTE, ATTRIBUTE, NEXT_HOP = struct.Struct("=IHHII"), struct.Struct("=8BI"), struct.Struct("=HH"), struct.Struct("=HBBi")
 
 
@@ -17,7 +18,7 @@ class Route(NamedTuple):
     network: str
     table: int
     metric: int
-    words: Optional[str]  # `drop`, or those of `ip route`; None for a route that neither leads nor drops
+    words: Optional[str]  # `drop`, ENCAPSULATED, or those of `ip route`; None for a route that neither leads nor drops
 
 
 def messages(data):
@@ -68,6 +69,8 @@ def several(data, size):
         if length < NEXT_HOP.size:
             raise ValueError(f"a gateway of {length} bytes")
         of_one = attributes(data[at:at + length], NEXT_HOP.size)
+        if ENCAP in of_one:
+            return ENCAPSULATED
         words = gateway(link, of_one.get(GATEWAY), of_one.get(VIA), flags & ONLINK, size)
         found.append(f"nexthop {words}" + f" weight {weight + 1}" * bool(weight))
         at += length + 3 & ~3
@@ -84,6 +87,8 @@ def words_of(kind, flags, of_route, size):
         return "drop"
     if kind != UNICAST or flags & DEAD:
         return None
+    if ENCAP in of_route:
+        return ENCAPSULATED
     if MULTIPATH in of_route:
         return several(of_route[MULTIPATH], size)
     if NH_ID in of_route and OIF not in of_route:

@@ -11,6 +11,7 @@ import sys
 import time
 
 from common import NETWORK, Numbers, fault, line_shown, locked, naming, text
+from netlink import ENCAPSULATED
 
 MOST, HIGHEST = 8, 65535
 TURN, QUIET = 0.25, 30  # seconds: one look at the stream; without a route, after which a dump is over
@@ -61,10 +62,11 @@ class Hops(dict):
 
 
 def way(address, is_six):
-    """The words of `ip route` with which this machine reaches an address now, for networks of one family. None if it doesn't."""
+    """The words of `ip route` with which this machine reaches an address now, for networks of one family. None if it doesn't, or only by
+    an encapsulation."""
     done = subprocess.run(["ip", "-j", "route", "get", address], capture_output=True, text=True)
     found = json.loads(done.stdout)[0] if done.returncode == 0 else {}
-    if "dev" not in found or "type" in found:
+    if "dev" not in found or "type" in found or "encap" in found:
         return None
     gateway = found.get("gateway") or found.get("via", {}).get("host", address)
     return f"via {'inet6 ' if ':' in gateway and not is_six else ''}{gateway} dev {found['dev']}"
@@ -112,6 +114,8 @@ class Table:
 
     def put(self, network, source, words, worth=100):
         """This is the source's route of the network now."""
+        if words == ENCAPSULATED:
+            fault(f"{network} has a route with an encapsulation (`encap`), which no hop can name")
         self.change(network, source, (self.hops[words], worth, self.dump))
 
     def reach(self, network, source, address, worth=100):

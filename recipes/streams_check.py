@@ -10,6 +10,7 @@ import select
 import shutil
 import signal
 import socket
+import struct
 import subprocess
 import tempfile
 import time
@@ -526,21 +527,26 @@ def recipe_of(chain, name):
     return int(tool("pgrep", "-g", str(chain.processes[name].pid), "-f", f"recipes/{name} feed").split()[-1])
 
 
+def fed(chain, given):
+    return subprocess.run([*inside(chain.own), "recipes/gobgp", "feed", "hops.new", "commands.new"], input=given, text=True,
+                          capture_output=True, cwd=chain.folder)
+
+
 def gobgp_inputs(chain):
     for name in ("hops", "commands"):
         Path(chain.folder, f"{name}.new").write_text("")
     path = '{"nlri":{"prefix":"10.0.0.0/8"},"attrs":[{"type":3,"nexthop":"192.0.2.1"}]}'
     for given in ("", "x\n", "{}\n", "[1]\n", '[{"nlri":{"prefix":"10.0.0.0/8"},"attrs":[]}]\n'):
         chain.page.refuses("recipes/gobgp feed hops.new commands.new", given)
-    done = subprocess.run([*inside(chain.own), "recipes/gobgp", "feed", "hops.new", "commands.new"], input=f"[{path}]\n[", text=True,
-                          capture_output=True, cwd=chain.folder)
+    done = fed(chain, f"[{path}]\n[")
     same("a line that is cut off", [done.returncode, Path(chain.folder, "commands.new").read_text()], [1, "add 10.0.0.0/8 1 100\n"])
-    tool("ip", "-n", chain.own, "route", "add", "203.0.113.0/24", "via", "inet6", "2001:db8:5::77", "dev", "lan")
     far = f"[{path.replace('192.0.2.1', '203.0.113.9')}]\n"
-    subprocess.run([*inside(chain.own), "recipes/gobgp", "feed", "hops.new", "commands.new"], input=far, text=True, capture_output=True,
-                   cwd=chain.folder)
+    tool("ip", "-n", chain.own, "route", "add", "203.0.113.0/24", "via", "inet6", "2001:db8:5::77", "dev", "lan")
+    fed(chain, far)
     same("the words of a next hop behind an IPv6 gateway", Path(chain.folder, "hops.new").read_text().splitlines()[1:],
          ["2 via inet6 2001:db8:5::77 dev lan"])
+    tool("ip", "-n", chain.own, "route", "replace", "203.0.113.0/24", *"encap ip id 1 dst 192.0.2.9 via 192.0.2.77 dev lan".split())
+    same("a next hop behind an encapsulation", "there is no route to its next hop 203.0.113.9" in fed(chain, far).stderr, True)
     never_rests(chain.folder)
     wrong_files(chain, "gobgp")
 
@@ -680,8 +686,17 @@ def frr_ends(chain, upstream, held, folder, place):
             print(f"{title}: no command came")
 
 
+def frame(*more):
+    """A frame of dplane_fpm_nl with the route of 10.9.0.0/16 over the link `lo`, and with more attributes."""
+    body = netlink.ROUTE.pack(socket.AF_INET, 16, 0, 0, 254, 11, 0, netlink.UNICAST, 0)
+    for kind, data in ((netlink.DST, bytes((10, 9, 0, 0))), (netlink.OIF, struct.pack("=I", 1)), *more):
+        body += netlink.ATTRIBUTE.pack(netlink.ATTRIBUTE.size + len(data), kind) + data
+    message = netlink.HEADER.pack(netlink.HEADER.size + len(body), netlink.NEWROUTE, 0, 0, 0) + body
+    return struct.pack(">BBH", 1, 1, 4 + len(message)) + message
+
+
 def frr_inputs(chain, folder, place):
-    for given in (b"GET / HTTP/1.0\r\n\r\n", b"\1\1\0\2", b"\1\1\0\x10" + bytes(12)):
+    for given in (b"GET / HTTP/1.0\r\n\r\n", b"\1\1\0\2", b"\1\1\0\x10" + bytes(12), frame((netlink.ENCAP, bytes(4)))):
         for name in ("hops", "commands"):
             Path(chain.folder, f"{name}.new").write_text("")
         recipe = subprocess.Popen([*inside(chain.own), "recipes/frr", "feed", "hops.new", "commands.new", "2621"], cwd=chain.folder,
@@ -714,7 +729,22 @@ def rtnetlink():
         rtnetlink_rounds(chain)
         for at in ("0", "x", "4294967296", "78"):
             chain.page.refuses(f"recipes/rtnetlink feed {at} hops.new commands.new") if at == "78" else None
+        encapsulated(chain)
         wrong_files(chain, "rtnetlink", "254")
+
+
+def encapsulated(chain):
+    """A route with an encapsulation after a plain one: neither the recipe nor recipes/ip-route.jq gives a route."""
+    ip, encap = ("ip", "-n", chain.own), "encap ip id 1 dst 192.0.2.9"
+    for family, *networks, how in (("-4", "10.0.0.0/8", "10.6.0.0/16", f"{encap} via 192.0.2.1 dev lan"),
+                                   ("-4", "10.0.0.0/8", "10.6.0.0/16", f"nexthop via 192.0.2.1 nexthop {encap} via 192.0.2.2"),
+                                   ("-6", "2001:db8:8::/48", "2001:db8:9::/48", f"{encap} dev lan")):
+        for network, words in zip(networks, ("dev lan", how)):
+            tool(*ip, "route", "add", network, "table", "79", *words.split())
+        chain.page.refuses(f"timeout 20 nsenter --net=/run/netns/{chain.own} recipes/rtnetlink feed 79 hops.new commands.new")
+        chain.page.refuses(f"ip -n {chain.own} -j {family} route show table 79 | jq -rf recipes/ip-route.jq 2>/dev/null | "
+                           "recipes/number adds hops.new")
+        tool(*ip, family, "route", "flush", "table", "79")
 
 
 def any_change(part):
