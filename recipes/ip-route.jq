@@ -6,12 +6,16 @@ def net($six):
     else .dst + (if $six then "/128" else "/32" end) end;
 def gateway:
     (if .gateway then "via \(.gateway) " elif .via then "via \(.via.family) \(.via.host) " else "" end) + "dev \(.dev)";
+def several:
+    if length == 1 then .[0] | gateway
+    else [.[] | "nexthop " + gateway + (if .weight > 1 then " weight \(.weight)" else "" end)] | join(" ") end;
 def hop:
     if .encap or any(.nexthops[]?; .encap) then error("a route with an encapsulation, which no hop can name: \(.)")
-    elif .nexthops then [.nexthops[] | "nexthop " + gateway + (if .weight > 1 then " weight \(.weight)" else "" end)] | join(" ")
+    elif .nexthops then .nexthops | several
     elif (.type // "unicast") == "unicast" then gateway
     elif .type == "blackhole" or .type == "unreachable" or .type == "prohibit" then "drop"
     else error("not a route that leads or drops: \(.)") end;
-map(select(.flags | index("dead") | not))
+def live: map(select(.flags | index("dead") | not));
+live | map(if .nexthops then .nexthops |= live else . end | select(.nexthops != []))
 | any(.[]; (.dst + (.gateway // "") | contains(":")) or .pref) as $six
 | [.[] | "\(net($six)) \([65535 - (.metric // 0), 0] | max) \(hop)"] | .[]

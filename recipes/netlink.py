@@ -62,19 +62,21 @@ def gateway(link, data, via, is_onlink, size):
 
 
 def several(data, size):
-    """The words for all gateways of a route."""
+    """The words for all gateways of a route that live. None if no one does."""
     found, at = [], 0
     while at + NEXT_HOP.size <= len(data):
         length, flags, weight, link = NEXT_HOP.unpack_from(data, at)
         if length < NEXT_HOP.size:
             raise ValueError(f"a gateway of {length} bytes")
-        of_one = attributes(data[at:at + length], NEXT_HOP.size)
+        at, of_one = at + (length + 3 & ~3), attributes(data[at:at + length], NEXT_HOP.size)
+        if flags & DEAD:
+            continue
         if ENCAP in of_one:
             return ENCAPSULATED
-        words = gateway(link, of_one.get(GATEWAY), of_one.get(VIA), flags & ONLINK, size)
-        found.append(f"nexthop {words}" + f" weight {weight + 1}" * bool(weight))
-        at += length + 3 & ~3
-    return " ".join(found)
+        found.append((gateway(link, of_one.get(GATEWAY), of_one.get(VIA), flags & ONLINK, size), weight))
+    if len(found) < 2:
+        return found[0][0] if found else None
+    return " ".join(f"nexthop {words}" + f" weight {weight + 1}" * bool(weight) for words, weight in found)
 
 
 def forget():

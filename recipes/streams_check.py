@@ -811,7 +811,23 @@ def rtnetlink_rounds(chain):
     chain.comes_to("another group", {network: {"via 192.0.2.9 dev lan": 65535} for network in networks})
     batch([*(f"route replace {network} via 192.0.2.7" for network in networks), "route add 10.99.0.0/16 dev lan"])
     settled_to(chain, "routes by their gateways again")
+    dead_gateway(chain, batch)
     rtnetlink_ends(chain, ip, batch, networks)
+
+
+def dead_gateway(chain, batch):
+    """One of two links goes down and comes up again: the route has the gateway that lives, and then both."""
+    before, network = chain.state(), "10.98.0.0/16"
+    batch(["link add lan2 type veth peer name far2", "link set far2 up", "link set lan2 up", "address add 198.18.0.129/25 dev lan2",
+           f"route add {network} nexthop via 192.0.2.1 weight 2 nexthop via 198.18.0.130"])
+    both = "nexthop via 192.0.2.1 dev lan weight 2 nexthop via 198.18.0.130 dev lan2"
+    chain.comes_to("two gateways", before | {network: {both: 65535}})
+    for title, word, words in (("one is dead", "down", "via 192.0.2.1 dev lan"), ("it lives again", "up", both)):
+        batch([f"link set lan2 {word}"])
+        chain.comes_to(title, before | {network: {words: 65535}})
+        settled_to(chain, f"{title}, by `ip`")
+    batch(["link del lan2", f"route del {network}"])
+    chain.comes_to("the link gone", before)
 
 
 def rtnetlink_ends(chain, ip, batch, networks):
