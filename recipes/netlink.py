@@ -98,6 +98,11 @@ def words_of(kind, flags, of_route, size):
     return gateway(number(of_route[OIF]), of_route.get(GATEWAY), of_route.get(VIA), flags & ONLINK, size)
 
 
+def table_of(body):
+    """The table of a message's route."""
+    return number(attributes(body, ROUTE.size).get(TABLE, body[4:5]))
+
+
 def route(body):
     """The route of a message, without words if its link is gone. None for a cached route, one of a network of
     link-local addresses, and one that serves only a source network or a type of service."""

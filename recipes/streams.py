@@ -166,12 +166,17 @@ class Table:
         """A dump begins: what it doesn't have is to go when it ends."""
         self.dump, self.is_dump, self.first, self.last = self.dump + 1, True, None, None
 
-    def end(self):
-        """The dump is over: routes that it did not have go."""
-        old = [(network, source) for network, routes in self.routes.items() for source, route in routes.items() if route[2] < self.dump]
-        before = len(self.lines)
+    def take_old(self, is_whole=lambda network: True):
+        """Takes the routes that the dump did not have, where it is whole."""
+        old = [(network, source) for network, routes in self.routes.items() if is_whole(network)
+               for source, route in routes.items() if route[2] < self.dump]
         for network, source in old:
             self.take(network, source)
+
+    def end(self):
+        """The dump is over: routes that it did not have go."""
+        before = len(self.lines)
+        self.take_old()
         gone = sum(line.startswith("del ") for line in self.lines[before:])
         if gone or not self.is_whole:
             say(f"the dump is over: {len(self.routes)} networks; {gone} routes that were not in it are gone")

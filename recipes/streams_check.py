@@ -842,6 +842,7 @@ def rtnetlink_ends(chain, ip, batch, networks):
         chain.start("rtnetlink", chain.shown["rtnetlink"])
         settled_to(chain, "the recipe killed")
     many_events(chain, ip)
+    gone_meanwhile(chain, ip, batch)
     tool(*ip, "route", "flush", "root", "10.192.0.0/11")
     settled_to(chain, "some networks gone")
     lines = subprocess.Popen([*ip, "-batch", "-"], stdin=subprocess.PIPE, text=True)
@@ -853,6 +854,25 @@ def rtnetlink_ends(chain, ip, batch, networks):
     milliseconds(chain, change)
     lines.stdin.close()
     lines.wait()
+
+
+def gone_meanwhile(chain, ip, batch):
+    """IPv6 routes go while the recipe reads all routes, and one comes: the kernel passes over others, and the recipe loses none of them."""
+    recipe, networks = chain.processes["rtnetlink"].pid, [f"2001:db8:1:{at:x}::/64" for at in range(1, 16001)]
+    batch([LINES[1], "link add other type veth peer name far2", *(f"route add {network} via 2001:db8:5::1" for network in networks)])
+    settled_to(chain, "many IPv6 routes")
+    for at in range(4):
+        batch(["link set other up"])
+        time.sleep(1)
+        batch(["link set other down"])
+        time.sleep(0.02 + 0.02 * at)
+        os.kill(recipe, signal.SIGSTOP)
+        batch([*(f"route del {network}" for network in networks[1000 * at:][:1000]), f"route add 2001:db8:1:ff0{at}::/64 dev lan"])
+        os.kill(recipe, signal.SIGCONT)
+        time.sleep(2)
+        settled_to(chain, "IPv6 routes gone during a read")
+    batch(["link del other"])
+    tool(*ip, "-6", "route", "flush", "root", "2001:db8:1::/48")
 
 
 def many_events(chain, ip):
