@@ -701,13 +701,45 @@ def frr_inputs(chain, folder, place):
             Path(chain.folder, f"{name}.new").write_text("")
         recipe = subprocess.Popen([*inside(chain.own), "recipes/frr", "feed", "hops.new", "commands.new", "2621"], cwd=chain.folder,
                                   stderr=subprocess.PIPE, text=True)
-        script = "import socket, sys, time\nfor _ in range(100):\n    try:\n        s = socket.create_connection(('127.0.0.1', 2621))\n" \
-                 f"        s.send({given!r})\n        sys.exit(s.recv(1) != b'')\n    except OSError:\n        time.sleep(0.1)\n"
-        tool(*inside(chain.own), "python3", "-c", script)
+        sending(chain, given).wait()
         said = recipe.communicate()[1].splitlines()
         same(f"the status for {given}", [recipe.returncode, Path(chain.folder, "commands.new").read_text()], [1, ""])
         print("refused:", said[-1])
+    strangers(chain)
     wrong_files(chain, "frr")
+
+
+SENDING = """import os, socket, time
+os.setuid({})
+end = socket.socket()
+while end.connect_ex(("127.0.0.1", 2621)):
+    time.sleep(0.1)
+    end = socket.socket()
+end.send({})
+{} or end.recv(1)
+"""
+
+
+def sending(chain, given, user=0, is_short=False):
+    """A program of this user that connects, sends this, and waits for the other end unless it is short."""
+    return subprocess.Popen([*inside(chain.own), "python3", "-c", SENDING.format(user, given, is_short)], stderr=subprocess.DEVNULL)
+
+
+def strangers(chain):
+    """Other users' connections bring no route, also if they are closed before the recipe takes them. The feed goes on."""
+    chain.start("strangers", "recipes/frr feed hops.new commands.new 2621")
+    recipe, commands = chain.processes["strangers"].pid, Path(chain.folder, "commands.new")
+    sending(chain, frame(), 65534).wait(LONG)
+    os.kill(recipe, signal.SIGSTOP)
+    sending(chain, frame(), 65534, True).wait(LONG)
+    time.sleep(1)
+    os.kill(recipe, signal.SIGCONT)
+    same("commands of other users", commands.read_text(), "")
+    own = sending(chain, frame())
+    wait_for("the route of root", lambda: commands.read_text() == "add 10.9.0.0/16 1 100\n")
+    chain.stop("strangers")
+    own.wait()
+    same("refused connections", chain.said("strangers").count("refused a connection of"), 2)
 
 
 def rtnetlink():
