@@ -7,9 +7,10 @@ from typing import NamedTuple, Optional
 
 NEWROUTE, DELROUTE, GETROUTE = 24, 25, 26
 UNICAST, DROPS = 1, (6, 7, 8)  # rtm_type: RTN_UNICAST; RTN_BLACKHOLE, RTN_UNREACHABLE, RTN_PROHIBIT
-DST, OIF, GATEWAY, PRIORITY, MULTIPATH, TABLE, VIA, NH_ID = 1, 4, 5, 6, 9, 15, 18, 30  # rta_type
+DST, OIF, GATEWAY, PRIORITY, MULTIPATH, TABLE, VIA, ENCAP, NH_ID = 1, 4, 5, 6, 9, 15, 18, 22, 30  # rta_type
 DEAD, ONLINK, CLONED = 1, 4, 0x200  # rtm_flags
 LINK_LOCAL = bytes.fromhex("fe80")
+ENCAPSULATED = "encap"  # the words of a route with labels, segments or a tunnel for its packets
 HEADER, ROUTE, ATTRIBUTE, NEXT_HOP = struct.Struct("=IHHII"), struct.Struct("=8BI"), struct.Struct("=HH"), struct.Struct("=HBBi")
 
 
@@ -17,7 +18,7 @@ class Route(NamedTuple):
     network: str
     table: int
     metric: int
-    words: Optional[str]  # `drop`, or those of `ip route`; None for a route that neither leads nor drops
+    words: Optional[str]  # `drop`, ENCAPSULATED, or those of `ip route`; None for a route that neither leads nor drops
 
 
 def messages(data):
@@ -61,17 +62,21 @@ def gateway(link, data, via, is_onlink, size):
 
 
 def several(data, size):
-    """The words for all gateways of a route."""
+    """The words for all gateways of a route that live. None if no one does."""
     found, at = [], 0
     while at + NEXT_HOP.size <= len(data):
         length, flags, weight, link = NEXT_HOP.unpack_from(data, at)
         if length < NEXT_HOP.size:
             raise ValueError(f"a gateway of {length} bytes")
-        of_one = attributes(data[at:at + length], NEXT_HOP.size)
-        words = gateway(link, of_one.get(GATEWAY), of_one.get(VIA), flags & ONLINK, size)
-        found.append(f"nexthop {words}" + f" weight {weight + 1}" * bool(weight))
-        at += length + 3 & ~3
-    return " ".join(found)
+        at, of_one = at + (length + 3 & ~3), attributes(data[at:at + length], NEXT_HOP.size)
+        if flags & DEAD:
+            continue
+        if ENCAP in of_one:
+            return ENCAPSULATED
+        found.append((gateway(link, of_one.get(GATEWAY), of_one.get(VIA), flags & ONLINK, size), weight))
+    if len(found) < 2:
+        return found[0][0] if found else None
+    return " ".join(f"nexthop {words}" + f" weight {weight + 1}" * bool(weight) for words, weight in found)
 
 
 def forget():
@@ -84,11 +89,18 @@ def words_of(kind, flags, of_route, size):
         return "drop"
     if kind != UNICAST or flags & DEAD:
         return None
+    if ENCAP in of_route:
+        return ENCAPSULATED
     if MULTIPATH in of_route:
         return several(of_route[MULTIPATH], size)
     if NH_ID in of_route and OIF not in of_route:
         return f"nhid {number(of_route[NH_ID])}"
     return gateway(number(of_route[OIF]), of_route.get(GATEWAY), of_route.get(VIA), flags & ONLINK, size)
+
+
+def table_of(body):
+    """The table of a message's route."""
+    return number(attributes(body, ROUTE.size).get(TABLE, body[4:5]))
 
 
 def route(body):

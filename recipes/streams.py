@@ -11,11 +11,13 @@ import sys
 import time
 
 from common import NETWORK, Numbers, fault, line_shown, locked, naming, text
+from netlink import ENCAPSULATED
 
 MOST, HIGHEST = 8, 65535
 TURN, QUIET = 0.25, 30  # seconds: one look at the stream; without a route, after which a dump is over
+LONGEST = 40  # times QUIET, or a longer rest: the seconds from its first route after which a dump without a rest is over
 COMMAND = re.compile(r"(add|del) ({}) (\d+|drop)(?: (\d+))?".format(NETWORK.pattern))
-CUT = re.compile(r"(?:add?|a|del?|d)(?: [0-9a-f:./]*(?: [drop0-9]*(?: \d*)?)?)?")
+CUT = re.compile(r"(?:add?|a|del?|d)(?: [0-9a-f:./]*(?: [drop0-9]*(?: \d*)?)?)?(?: c?u?t?)*")
 
 
 def say(words):
@@ -60,12 +62,13 @@ class Hops(dict):
 
 
 def way(address, is_six):
-    """The words of `ip route` with which this machine reaches an address now, for networks of one family. None if it doesn't."""
+    """The words of `ip route` with which this machine reaches an address now, for networks of one family. None if it doesn't, or only by
+    an encapsulation."""
     done = subprocess.run(["ip", "-j", "route", "get", address], capture_output=True, text=True)
     found = json.loads(done.stdout)[0] if done.returncode == 0 else {}
-    if "dev" not in found or "type" in found:
+    if "dev" not in found or "type" in found or "encap" in found:
         return None
-    gateway = found.get("gateway", address)
+    gateway = found.get("gateway") or found.get("via", {}).get("host", address)
     return f"via {'inet6 ' if ':' in gateway and not is_six else ''}{gateway} dev {found['dev']}"
 
 
@@ -75,7 +78,7 @@ class Table:
 
     def __init__(self, hops, commands, source=None):
         self.hops, self.commands, self.lines, self.routes = Hops(hops), commands, [], {}
-        self.dump, self.is_dump, self.is_whole, self.last = 1, True, False, None
+        self.dump, self.is_dump, self.is_whole, self.first, self.last = 1, True, False, None, None
         self.ways, self.waiting, self.tried = {}, {}, 0
         self.file = self.opened()
         for network, held in self.stored().items():
@@ -91,12 +94,12 @@ class Table:
         return file
 
     def stored(self):
-        """The preference of each hop of each network, after the commands of the file. If the last line was cut off, as by a full disk, it
-        gets its end; the leader has read the rest of it."""
+        """The preference of each hop of each network, after the commands of the file. If the last line was cut off, as by a full disk, its
+        end is the word `cut`: the leader has read the rest of it, which may be another command, and answers `bad` to the line."""
         found, line = {}, ""
         self.file.seek(0)
         for at, line in enumerate(self.file, 1):
-            command = COMMAND.fullmatch(line.rstrip("\n"))
+            command = COMMAND.fullmatch(line[:-1]) if line[-1] == "\n" else None
             if command:
                 word, network, hop, preference = command.groups()
                 hop, held = hop if hop == "drop" else int(hop), found.setdefault(network, {})
@@ -106,11 +109,13 @@ class Table:
             elif not CUT.fullmatch(line.rstrip("\n")):
                 fault(f"line {at} of {self.commands}: not a command of a recipe: {line_shown(line.rstrip())}")
         if line and line[-1] != "\n":
-            self.file.write("\n")
+            self.file.write(" cut\n")
         return {network: held for network, held in found.items() if held}
 
     def put(self, network, source, words, worth=100):
         """This is the source's route of the network now."""
+        if words == ENCAPSULATED:
+            fault(f"{network} has a route with an encapsulation (`encap`), which no hop can name")
         self.change(network, source, (self.hops[words], worth, self.dump))
 
     def reach(self, network, source, address, worth=100):
@@ -133,6 +138,7 @@ class Table:
     def hear(self):
         """Something of the dump came."""
         self.last = time.monotonic()
+        self.first = self.first or self.last
 
     def change(self, network, source, route):
         self.hear()
@@ -158,14 +164,19 @@ class Table:
 
     def begin(self):
         """A dump begins: what it doesn't have is to go when it ends."""
-        self.dump, self.is_dump, self.last = self.dump + 1, True, None
+        self.dump, self.is_dump, self.first, self.last = self.dump + 1, True, None, None
+
+    def take_old(self, is_whole=lambda network: True):
+        """Takes the routes that the dump did not have, where it is whole."""
+        old = [(network, source) for network, routes in self.routes.items() if is_whole(network)
+               for source, route in routes.items() if route[2] < self.dump]
+        for network, source in old:
+            self.take(network, source)
 
     def end(self):
         """The dump is over: routes that it did not have go."""
-        old = [(network, source) for network, routes in self.routes.items() for source, route in routes.items() if route[2] < self.dump]
         before = len(self.lines)
-        for network, source in old:
-            self.take(network, source)
+        self.take_old()
         gone = sum(line.startswith("del ") for line in self.lines[before:])
         if gone or not self.is_whole:
             say(f"the dump is over: {len(self.routes)} networks; {gone} routes that were not in it are gone")
@@ -186,14 +197,18 @@ class Table:
                 for (network, source), worth in list(held.items()) if way(*key) else ():
                     self.reach(network, source, key[0], worth)
 
+    def is_over(self, quiet):
+        """Whether the dump is over: no route came for these seconds, or routes have come for far longer without such a rest."""
+        now = time.monotonic()
+        return self.is_dump and self.last and (now - self.last >= quiet or now - self.first >= LONGEST * max(quiet, QUIET))
+
     def pieces(self, file, quiet=QUIET, turn=lambda: TURN):
-        """The pieces of a stream as they come, until it ends. After each one the commands are written. A dump is over after quiet
-        seconds."""
+        """The pieces of a stream as they come, until it ends. After each one the commands are written."""
         piece = b"-"
         while piece:
             seconds = turn()
             self.again()
-            if self.is_dump and self.last and time.monotonic() - self.last >= quiet:
+            if self.is_over(quiet):
                 self.end()
             self.flush()
             if select.select([file], [], [], seconds)[0]:

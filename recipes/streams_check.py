@@ -10,12 +10,14 @@ import select
 import shutil
 import signal
 import socket
+import struct
 import subprocess
 import tempfile
 import time
 from pathlib import Path
 
 import netlink
+import streams
 from common import HERE, Numbers, Page, any_addresses, bird, ends, fault, hops_of, namespace, needs, same, text, tool
 from live_check import inside, socket_in, wait_for
 from streams import COMMAND
@@ -455,12 +457,15 @@ def exabgp_inputs(chain):
 
 
 def cut_off(chain, command):
-    """A last line without its end gets it, and the next start passes it over."""
+    """A last line without its end becomes one to which the leader answers `bad`, and the next starts pass it over."""
     path = Path(chain.folder, "commands.new")
-    path.write_text("add 10.0.0.0/8 1 100\nadd 10.1.0.0/1")
-    for _ in range(2):
-        chain.page.run(f"{command} < /dev/null")
-    same("a line that was cut off", path.read_text(), "add 10.0.0.0/8 1 100\nadd 10.1.0.0/1\n")
+    for line in ("a", "add 10.1.0.0/1", "add 10.1.0.0/16 1", "add 10.1.0.0/16 2 1", "add 10.1.0.0/16 drop", "add 10.1.0.0/16 2 100",
+                 "del 10.0.0.0/8 1", "del 10.0.0.0/8 2 c"):
+        path.write_text(f"add 10.0.0.0/8 1 100\n{line}")
+        for _ in range(2):
+            chain.page.run(f"{command} < /dev/null")
+        same("a line that was cut off", path.read_text(), f"add 10.0.0.0/8 1 100\n{line} cut\n")
+        same(f"the replies to the line {line} cut", chain.page.run(f"routes lead < {path}"), "set 10.0.0.0/8 1\nok\nbad\n")
 
 
 def gobgp():
@@ -522,16 +527,46 @@ def recipe_of(chain, name):
     return int(tool("pgrep", "-g", str(chain.processes[name].pid), "-f", f"recipes/{name} feed").split()[-1])
 
 
+def fed(chain, given):
+    return subprocess.run([*inside(chain.own), "recipes/gobgp", "feed", "hops.new", "commands.new"], input=given, text=True,
+                          capture_output=True, cwd=chain.folder)
+
+
 def gobgp_inputs(chain):
     for name in ("hops", "commands"):
         Path(chain.folder, f"{name}.new").write_text("")
     path = '{"nlri":{"prefix":"10.0.0.0/8"},"attrs":[{"type":3,"nexthop":"192.0.2.1"}]}'
     for given in ("", "x\n", "{}\n", "[1]\n", '[{"nlri":{"prefix":"10.0.0.0/8"},"attrs":[]}]\n'):
         chain.page.refuses("recipes/gobgp feed hops.new commands.new", given)
-    done = subprocess.run([*inside(chain.own), "recipes/gobgp", "feed", "hops.new", "commands.new"], input=f"[{path}]\n[", text=True,
-                          capture_output=True, cwd=chain.folder)
+    done = fed(chain, f"[{path}]\n[")
     same("a line that is cut off", [done.returncode, Path(chain.folder, "commands.new").read_text()], [1, "add 10.0.0.0/8 1 100\n"])
+    far = f"[{path.replace('192.0.2.1', '203.0.113.9')}]\n"
+    tool("ip", "-n", chain.own, "route", "add", "203.0.113.0/24", "via", "inet6", "2001:db8:5::77", "dev", "lan")
+    fed(chain, far)
+    same("the words of a next hop behind an IPv6 gateway", Path(chain.folder, "hops.new").read_text().splitlines()[1:],
+         ["2 via inet6 2001:db8:5::77 dev lan"])
+    tool("ip", "-n", chain.own, "route", "replace", "203.0.113.0/24", *"encap ip id 1 dst 192.0.2.9 via 192.0.2.77 dev lan".split())
+    same("a next hop behind an encapsulation", "there is no route to its next hop 203.0.113.9" in fed(chain, far).stderr, True)
+    never_rests(chain.folder)
     wrong_files(chain, "gobgp")
+
+
+def never_rests(folder):
+    """A source that never rests: after the longest time, here three seconds, the routes that it did not send go."""
+    commands, (reader, writer) = Path(folder, "commands.restless"), os.pipe()
+    commands.write_text("add 10.9.0.0/16 1 100\n")
+    table = streams.Table(f"{folder}/hops.restless", commands)
+    longest, streams.LONGEST = streams.LONGEST, 0.1
+    os.write(writer, b"-")
+    for _, _ in zip(range(3000), table.pieces(os.fdopen(reader, "rb"))):
+        table.put("10.0.0.0/8", "peer", "via 192.0.2.1 dev lan")
+        if not table.is_dump:
+            break
+        time.sleep(0.01)
+        os.write(writer, b"-")
+    streams.LONGEST = longest
+    os.close(writer)
+    same("routes after the longest time", commands.read_text(), "add 10.9.0.0/16 1 100\nadd 10.0.0.0/8 1 100\ndel 10.9.0.0/16 1\n")
 
 
 BGPD = """router bgp 64500
@@ -651,19 +686,60 @@ def frr_ends(chain, upstream, held, folder, place):
             print(f"{title}: no command came")
 
 
+def frame(*more):
+    """A frame of dplane_fpm_nl with the route of 10.9.0.0/16 over the link `lo`, and with more attributes."""
+    body = netlink.ROUTE.pack(socket.AF_INET, 16, 0, 0, 254, 11, 0, netlink.UNICAST, 0)
+    for kind, data in ((netlink.DST, bytes((10, 9, 0, 0))), (netlink.OIF, struct.pack("=I", 1)), *more):
+        body += netlink.ATTRIBUTE.pack(netlink.ATTRIBUTE.size + len(data), kind) + data
+    message = netlink.HEADER.pack(netlink.HEADER.size + len(body), netlink.NEWROUTE, 0, 0, 0) + body
+    return struct.pack(">BBH", 1, 1, 4 + len(message)) + message
+
+
 def frr_inputs(chain, folder, place):
-    for given in (b"GET / HTTP/1.0\r\n\r\n", b"\1\1\0\2", b"\1\1\0\x10" + bytes(12)):
+    for given in (b"GET / HTTP/1.0\r\n\r\n", b"\1\1\0\2", b"\1\1\0\x10" + bytes(12), frame((netlink.ENCAP, bytes(4)))):
         for name in ("hops", "commands"):
             Path(chain.folder, f"{name}.new").write_text("")
         recipe = subprocess.Popen([*inside(chain.own), "recipes/frr", "feed", "hops.new", "commands.new", "2621"], cwd=chain.folder,
                                   stderr=subprocess.PIPE, text=True)
-        script = "import socket, sys, time\nfor _ in range(100):\n    try:\n        s = socket.create_connection(('127.0.0.1', 2621))\n" \
-                 f"        s.send({given!r})\n        sys.exit(s.recv(1) != b'')\n    except OSError:\n        time.sleep(0.1)\n"
-        tool(*inside(chain.own), "python3", "-c", script)
+        sending(chain, given).wait()
         said = recipe.communicate()[1].splitlines()
         same(f"the status for {given}", [recipe.returncode, Path(chain.folder, "commands.new").read_text()], [1, ""])
         print("refused:", said[-1])
+    strangers(chain)
     wrong_files(chain, "frr")
+
+
+SENDING = """import os, socket, time
+os.setuid({})
+end = socket.socket()
+while end.connect_ex(("127.0.0.1", 2621)):
+    time.sleep(0.1)
+    end = socket.socket()
+end.send({})
+{} or end.recv(1)
+"""
+
+
+def sending(chain, given, user=0, is_short=False):
+    """A program of this user that connects, sends this, and waits for the other end unless it is short."""
+    return subprocess.Popen([*inside(chain.own), "python3", "-c", SENDING.format(user, given, is_short)], stderr=subprocess.DEVNULL)
+
+
+def strangers(chain):
+    """Other users' connections bring no route, also if they are closed before the recipe takes them. The feed goes on."""
+    chain.start("strangers", "recipes/frr feed hops.new commands.new 2621")
+    recipe, commands = chain.processes["strangers"].pid, Path(chain.folder, "commands.new")
+    sending(chain, frame(), 65534).wait(LONG)
+    os.kill(recipe, signal.SIGSTOP)
+    sending(chain, frame(), 65534, True).wait(LONG)
+    time.sleep(1)
+    os.kill(recipe, signal.SIGCONT)
+    same("commands of other users", commands.read_text(), "")
+    own = sending(chain, frame())
+    wait_for("the route of root", lambda: commands.read_text() == "add 10.9.0.0/16 1 100\n")
+    chain.stop("strangers")
+    own.wait()
+    same("refused connections", chain.said("strangers").count("refused a connection of"), 2)
 
 
 def rtnetlink():
@@ -685,7 +761,22 @@ def rtnetlink():
         rtnetlink_rounds(chain)
         for at in ("0", "x", "4294967296", "78"):
             chain.page.refuses(f"recipes/rtnetlink feed {at} hops.new commands.new") if at == "78" else None
+        encapsulated(chain)
         wrong_files(chain, "rtnetlink", "254")
+
+
+def encapsulated(chain):
+    """A route with an encapsulation after a plain one: neither the recipe nor recipes/ip-route.jq gives a route."""
+    ip, encap = ("ip", "-n", chain.own), "encap ip id 1 dst 192.0.2.9"
+    for family, *networks, how in (("-4", "10.0.0.0/8", "10.6.0.0/16", f"{encap} via 192.0.2.1 dev lan"),
+                                   ("-4", "10.0.0.0/8", "10.6.0.0/16", f"nexthop via 192.0.2.1 nexthop {encap} via 192.0.2.2"),
+                                   ("-6", "2001:db8:8::/48", "2001:db8:9::/48", f"{encap} dev lan")):
+        for network, words in zip(networks, ("dev lan", how)):
+            tool(*ip, "route", "add", network, "table", "79", *words.split())
+        chain.page.refuses(f"timeout 20 nsenter --net=/run/netns/{chain.own} recipes/rtnetlink feed 79 hops.new commands.new")
+        chain.page.refuses(f"ip -n {chain.own} -j {family} route show table 79 | jq -rf recipes/ip-route.jq 2>/dev/null | "
+                           "recipes/number adds hops.new")
+        tool(*ip, family, "route", "flush", "table", "79")
 
 
 def any_change(part):
@@ -752,7 +843,23 @@ def rtnetlink_rounds(chain):
     chain.comes_to("another group", {network: {"via 192.0.2.9 dev lan": 65535} for network in networks})
     batch([*(f"route replace {network} via 192.0.2.7" for network in networks), "route add 10.99.0.0/16 dev lan"])
     settled_to(chain, "routes by their gateways again")
+    dead_gateway(chain, batch)
     rtnetlink_ends(chain, ip, batch, networks)
+
+
+def dead_gateway(chain, batch):
+    """One of two links goes down and comes up again: the route has the gateway that lives, and then both."""
+    before, network = chain.state(), "10.98.0.0/16"
+    batch(["link add lan2 type veth peer name far2", "link set far2 up", "link set lan2 up", "address add 198.18.0.129/25 dev lan2",
+           f"route add {network} nexthop via 192.0.2.1 weight 2 nexthop via 198.18.0.130"])
+    both = "nexthop via 192.0.2.1 dev lan weight 2 nexthop via 198.18.0.130 dev lan2"
+    chain.comes_to("two gateways", before | {network: {both: 65535}})
+    for title, word, words in (("one is dead", "down", "via 192.0.2.1 dev lan"), ("it lives again", "up", both)):
+        batch([f"link set lan2 {word}"])
+        chain.comes_to(title, before | {network: {words: 65535}})
+        settled_to(chain, f"{title}, by `ip`")
+    batch(["link del lan2", f"route del {network}"])
+    chain.comes_to("the link gone", before)
 
 
 def rtnetlink_ends(chain, ip, batch, networks):
@@ -767,6 +874,7 @@ def rtnetlink_ends(chain, ip, batch, networks):
         chain.start("rtnetlink", chain.shown["rtnetlink"])
         settled_to(chain, "the recipe killed")
     many_events(chain, ip)
+    gone_meanwhile(chain, ip, batch)
     tool(*ip, "route", "flush", "root", "10.192.0.0/11")
     settled_to(chain, "some networks gone")
     lines = subprocess.Popen([*ip, "-batch", "-"], stdin=subprocess.PIPE, text=True)
@@ -778,6 +886,25 @@ def rtnetlink_ends(chain, ip, batch, networks):
     milliseconds(chain, change)
     lines.stdin.close()
     lines.wait()
+
+
+def gone_meanwhile(chain, ip, batch):
+    """IPv6 routes go while the recipe reads all routes, and one comes: the kernel passes over others, and the recipe loses none of them."""
+    recipe, networks = chain.processes["rtnetlink"].pid, [f"2001:db8:1:{at:x}::/64" for at in range(1, 16001)]
+    batch([LINES[1], "link add other type veth peer name far2", *(f"route add {network} via 2001:db8:5::1" for network in networks)])
+    settled_to(chain, "many IPv6 routes")
+    for at in range(4):
+        batch(["link set other up"])
+        time.sleep(1)
+        batch(["link set other down"])
+        time.sleep(0.02 + 0.02 * at)
+        os.kill(recipe, signal.SIGSTOP)
+        batch([*(f"route del {network}" for network in networks[1000 * at:][:1000]), f"route add 2001:db8:1:ff0{at}::/64 dev lan"])
+        os.kill(recipe, signal.SIGCONT)
+        time.sleep(2)
+        settled_to(chain, "IPv6 routes gone during a read")
+    batch(["link del other"])
+    tool(*ip, "-6", "route", "flush", "root", "2001:db8:1::/48")
 
 
 def many_events(chain, ip):
