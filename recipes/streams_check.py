@@ -762,7 +762,23 @@ def rtnetlink():
         for at in ("0", "x", "4294967296", "78"):
             chain.page.refuses(f"recipes/rtnetlink feed {at} hops.new commands.new") if at == "78" else None
         encapsulated(chain)
+        many_gateways(chain)
         wrong_files(chain, "rtnetlink", "254")
+
+
+def many_gateways(chain):
+    """A route over so many gateways that it needs a large part of a dump, and another route: the recipe gives both."""
+    gateways = [word for at in range(1, 251) for word in ("nexthop", "via", f"192.0.2.{at}", "dev", "lan")]
+    for network, words in (("10.0.0.0/8", gateways), ("10.6.0.0/16", ["via", "192.0.2.1"])):
+        tool("ip", "-n", chain.own, "route", "add", network, "table", "79", *words)
+    with tempfile.TemporaryDirectory() as folder:
+        hops, commands = Path(folder, "hops"), Path(folder, "commands")
+        hops.touch()
+        command = ["nsenter", f"--net=/run/netns/{chain.own}", HERE / "rtnetlink", "feed", "79", hops, commands]
+        with subprocess.Popen(command, stderr=subprocess.DEVNULL) as recipe:
+            wait_for("a route over 250 gateways and another", lambda: commands.exists() and commands.read_text().count("add 10.") == 2)
+            recipe.terminate()
+    tool("ip", "-n", chain.own, "route", "flush", "table", "79")
 
 
 def encapsulated(chain):
