@@ -1,6 +1,7 @@
 pub mod Cleared
 pub mod Rebuilt
 pub mod Entries
+pub mod Equality
 pub mod KeyLengths
 pub mod Written
 pub mod Covered

@@ -1,4 +1,4 @@
--- The theorems about the bit strings of networks, and about matches in a map, as statements.
+-- The theorems about the bit strings of networks, about equality, and about matches in a map, as statements.
 use Rattle.std.specs.Prelude.{◌≡◌, ◌<◌, ◌≤◌, ◌↔◌, ◌⊎◌, ℕ, IsTrue, Bool, List, None, length}
 use Rattle.std.specs.FinMap.{get}
 use Rattle.std.specs.declared.cmp.Ordering.TheVariants.{Less}
@@ -9,6 +9,8 @@ use Rattle.ipnet_blocks.specs.Networks.{Network, IsNetwork, block_of}
 use Rattle.trie_core.specs.Bits.{number_from}
 use Rattle.trie_core.specs.Nodes.{BitMap}
 use Rattle.trie_core.specs.Search.{IsLongest, NoBeginning}
+use Rattle.prefix_trie.specs.Equal.{same_maps, same_sets}
+use Rattle.prefix_trie.specs.Seen.{SeenMap}
 
 -- the string of m is a prefix of that of n exactly if all addresses of n are addresses of m
 abbrev pub BegunAreInside : Type 0
@@ -27,6 +29,18 @@ IsSooner w s t = (number_from w s < number_from w t) ⊎ ((number_from w s ≡ n
 -- a walk reaches the prefix with the bits s before the prefix with the bits t exactly if s has the lesser masked key, or the same and fewer bits
 abbrev pub StringsAscend : Type 0
 StringsAscend = (w : ℕ) (s t : List Bool) → length s ≤ w → length t ≤ w → (bits_cmp s t ≡ Less) ↔ IsSooner w s t
+
+-- of two prefixes of a string, a walk reaches s before t exactly if s is shorter
+abbrev pub PrefixesAscend : Type 0
+PrefixesAscend = (q s t : List Bool) → IsTrue (begins s q) → IsTrue (begins t q) → (bits_cmp s t ≡ Less) ↔ (length s < length t)
+
+-- if `==` of values holds exactly for equal values, that of maps holds exactly for maps with the same entries
+abbrev pub SameEntries : Type 0 → Type 0
+SameEntries X = (E : X → X → Bool) → ((x y : X) → IsTrue (E x y) ↔ (x ≡ y)) → (m n : SeenMap X) → IsTrue (same_maps E m n) ↔ (m.entries ≡ n.entries)
+
+-- `==` of sets holds exactly for sets with the same members
+abbrev pub SameMembers : Type 0
+SameMembers = (s t : SeenMap (Unit {0})) → IsTrue (same_sets s t) ↔ (s.entries ≡ t.entries)
 
 -- s begins with q, and with no longer key of m: network s is inside q, and inside no stored network strictly inside q
 pub record IsGoverned {X : Type 0} (m : BitMap X) (q s : List Bool) : Type 0 where

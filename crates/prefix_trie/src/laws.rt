@@ -1,7 +1,7 @@
-//! Theorems about the bit strings of networks, about matches, and about refusals: public functions without a body, whose contracts
-//! are the theorems.
+//! Theorems about the bit strings of networks, about equality, about matches, and about refusals: public functions without a body,
+//! whose contracts are the theorems.
 ghost use Rattle.std.specs.Prelude.{◌≡◌, ◌↔◌, IsTrue};
-ghost use Rattle.prefix_trie.specs.Laws.{BegunAreInside, GovernedMatch, StringsAscend, WalksAscend};
+ghost use Rattle.prefix_trie.specs.Laws.{BegunAreInside, GovernedMatch, PrefixesAscend, SameEntries, SameMembers, StringsAscend, WalksAscend};
 ghost use Rattle.prefix_trie.specs.declared.refused.Refused.{Refused as AnyRefused};
 
 use crate::refused::Refused;
@@ -15,9 +15,18 @@ pub fn networks()
 {}
 
 /// A walk visits the prefixes of one width by their masked keys, which `Prefix::mask` returns, and then by length. For example, in a
-/// map of `(u32, u8)` the key (0, 8) comes before (0, 9), and (0, 9) before (1 << 31, 1).
+/// map of `(u32, u8)` the key (0, 8) comes before (0, 9), and (0, 9) before (1 << 31, 1). So the cover of a key begins with the shortest
+/// key, and each key after it is longer.
 pub fn walks()
     ensures order { StringsAscend }
+    ensures cover { PrefixesAscend }
+{}
+
+/// `==` holds exactly for sets with the same members. It holds exactly for maps with the same entries, if `==` of their values holds
+/// exactly for equal values.
+pub fn equality<T>()
+    ensures maps { SameEntries T }
+    ensures sets { SameMembers }
 {}
 
 /// A prefix governs what it contains and no longer stored key contains. All that a prefix governs has the same longest match as the

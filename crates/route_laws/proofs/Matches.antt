@@ -1,16 +1,17 @@
 -- What the longest match is.
-use Rattle.std.proofs.Common.{◌≡◌, ◌<◌, ◌≤◌, ◌-◌, ◌/◌, ◌^◌, ◌⊎◌, inl, inr, ⊎_elim, Bool, true, false, cond, nat_lt, List, [], ◌∷◌, Option, Some, None, MatchOption, refl, sym, ap, ◌∙◌, subst, arith}
-use Rattle.std.proofs.lemmas.Bool.{false_from_ne_true, ltb-false, ltb-true}
+use Rattle.std.proofs.Common.{◌≡◌, ◌<◌, ◌≤◌, ◌-◌, ◌/◌, ◌^◌, ◌⊎◌, inl, inr, ⊎_elim, Bool, true, false, cond, nat_lt, List, [], ◌∷◌, AllPairs, Option, Some, None, MatchOption, refl, sym, ap, ◌∙◌, subst, arith}
+use Rattle.std.proofs.lemmas.Bool.{cases_lt, false_from_ne_true, ltb-false, ltb-true}
+use Rattle.std.proofs.lemmas.List.Kept.{AllPairs-filter}
 use Rattle.std.proofs.lemmas.Option.{MatchOption-at_none, MatchOption-at_some}
 use Rattle.ipnet_addr.specs.Addresses.{Address, IsAddress, width}
-use Rattle.ipnet_blocks.specs.Blocks.{Block, IsBlock, free_bits, HasAddress, IsInside, is_inside, host, first_of}
+use Rattle.ipnet_blocks.specs.Blocks.{Block, IsBlock, free_bits, HasAddress, IsBefore, IsInside, is_inside, host, first_of}
 use Rattle.ipnet_addr.proofs.Members.{In}
-use Rattle.ipnet_addr.proofs.Ascending.{In-from_Contains, Contains-from_In, In-from_All, Rising-from_pairs}
-use Rattle.ipnet_blocks.proofs.BlockLaws.{block_path, nested, has_first, inside_by_numbers, numbers_from_inside}
+use Rattle.ipnet_addr.proofs.Ascending.{In-from_Contains, Contains-from_In, In-from_All, Rising, Rising-from_pairs, pairs_from_Rising}
+use Rattle.ipnet_blocks.proofs.BlockLaws.{block_path, nested, has_first, inside_by_numbers, numbers_from_inside, strict}
 use Rattle.ipnet_blocks.proofs.Parents.{decide_inside}
 use Rattle.ipnet_blocks.proofs.Maximals.{host_is_block, in_host, has_host}
 use Rattle.route_choices.proofs.Kept.{In-from_filter, In-filter, none_kept, same_kept}
-use Rattle.route_laws.proofs.Ordered.{Earlier, one_of_block}
+use Rattle.route_laws.proofs.Ordered.{Earlier, before_apart, one_of_block, shorter_first}
 use Rattle.route_laws.specs.Tables.{Route, IsTable, IsMatch, covering, longer, longest, match_of, Governed}
 
 pub bools_same : (a b : Bool) → (a ≡ true → b ≡ true) → (b ≡ true → a ≡ true) → a ≡ b
@@ -23,6 +24,13 @@ same_length a b x h k l =
     let f : a.family ≡ b.family = sym h.0 ∙ k.0 in
     let w : free_bits a ≡ free_bits b = ap (λ g. width g - a.len) f ∙ ap (λ n. width b.family - n) l in
     block_path a b f l (sym h.1 ∙ ap (λ n. x.number / 2 ^ n) w ∙ k.1)
+
+-- of two blocks with a common address the earlier is shorter
+earlier_is_shorter : (a b : Block) (x : Address) → IsBlock a → HasAddress a x → HasAddress b x → IsBefore a b → a.len < b.len
+earlier_is_shorter a b x p h k l = ⊎_elim
+    (λ less. less)
+    (λ more. absurd (⊎_elim (λ m. strict a b l (shorter_first b a x p k h m)) (λ m. before_apart a b l (same_length a b x h k (omega arith))) (cases_lt b.len a.len)))
+    (cases_lt a.len b.len)
 
 pub inside_from_test : (a b : Block) → IsBlock a → IsBlock b → is_inside a b ≡ true → IsInside a b
 inside_from_test a b p q = (inside_by_numbers a b p q).1
@@ -66,6 +74,22 @@ module _ (M : List Route) (table : IsTable M) where
     in_covers r i =
         let t = In-from_filter (λ s. is_inside n s.block) M r i in
         (t.0, inside_from_test n r.block ok (block_in r t.0) t.1)
+
+    pub cover_ascends : AllPairs (λ r s. r.block.len < s.block.len) (covering M n)
+    cover_ascends = pairs_from_Rising Shorter (covering M n) (shorter (covering M n) (λ r i. i) (Rising-from_pairs (Earlier Route.block) (covering M n) (AllPairs-filter (Earlier Route.block) (λ r. is_inside n r.block) M table.ascending)))
+      where
+        Shorter : Route → Route → Type 0
+        Shorter r s = r.block.len < s.block.len
+
+        has : (r : Route) → In r (covering M n) → HasAddress r.block (first_of n)
+        has r i = (in_covers r i).1 (first_of n) (has_first n)
+
+        shorter : (rs : List Route) → ((r : Route) → In r rs → In r (covering M n)) → Rising (Earlier Route.block) rs → Rising Shorter rs
+        shorter [] h up = tt
+        shorter (r ∷ rs) h up = (
+          λ s i. earlier_is_shorter r.block s.block (first_of n) (block_in r (in_covers r (h r (inl refl))).0) (has r (h r (inl refl))) (has s (h s (inr i))) (up.0 s i),
+          shorter rs (λ s i. h s (inr i)) up.1,
+        )
 
     pub no_match : match_of M n ≡ None → (r : Route) → In r M → IsInside n r.block → ⊥
     no_match e r i h = MatchOption-at_none ((s : Route) → In s (covering M n) → ⊥) (λ s. AtLeast s (covering M n)) e (best_of (covering M n)) r (covers_in r i h)

@@ -1,5 +1,5 @@
 -- The theorems about tables, as statements.
-use Rattle.std.specs.Prelude.{◌≡◌, ◌≢◌, ◌⊎◌, false, [], ◌∷◌, ◌++◌, ℕ, ◌^◌, ◌≤◌, ◌<◌, if◌then◌else◌, ◌↔◌, ◌==◌, ◌+◌, List, Option, Some, None, MatchOption, Contains, length, map, sum_by, filter, flat_map}
+use Rattle.std.specs.Prelude.{◌≡◌, ◌≢◌, ◌⊎◌, false, [], ◌∷◌, ◌++◌, ℕ, ◌^◌, ◌≤◌, ◌<◌, if◌then◌else◌, ◌↔◌, ◌==◌, ◌+◌, List, Option, Some, None, MatchOption, AllPairs, Contains, length, map, sum_by, filter, flat_map}
 use Rattle.ipnet_addr.specs.Addresses.{Family, Address, IsAddress, same_family}
 use Rattle.ipnet_blocks.specs.Blocks.{Block, IsBlock, HasAddress, IsAscending, has_address, is_inside, host}
 use Rattle.ipnet_blocks.specs.Maximal.{IsMaximal, IsUnion, IsShortest, maximal_of}
@@ -7,7 +7,7 @@ use Rattle.route_choices.specs.Hops.{IsHop, number_of}
 use Rattle.route_choices.specs.declared.hop.Hop.{Hop}
 use Rattle.route_choices.specs.declared.hop.Hop.TheVariants.{Number}
 use Rattle.route_choices.specs.Choices.{Choice, AreChoices, best, default_preference, holds_hop, is_one_too_many, choices_with, choices_without}
-use Rattle.route_laws.specs.Tables.{Route, IsTable, IsMatch, is_stored, longer, match_of, match_number, hop_at, Governed, Changed, with_route, without_block}
+use Rattle.route_laws.specs.Tables.{Route, IsTable, IsMatch, covering, is_stored, longer, match_of, match_number, hop_at, Governed, Changed, with_route, without_block}
 use Rattle.route_laws.specs.Flats.{Piece, IsFlat, IsAdmissible, blocks_of, flat_of}
 use Rattle.route_laws.specs.Changes.{changed, route_for, with_each, with_pieces}
 use Rattle.route_laws.specs.Fewest.{AreHops}
@@ -21,6 +21,10 @@ use Rattle.route_laws.specs.Networks.{Stored, IsStoredTable, best_route, choices
 -- `match_of` finds the match
 abbrev pub MatchIsLongest : Type 0
 MatchIsLongest = (M : List Route) (n : Block) → IsTable M → IsBlock n → (r : Route) → (match_of M n ≡ Some r) ↔ IsMatch M n r
+
+-- of two routes whose blocks contain n the shorter comes first
+abbrev pub CoverAscends : Type 0
+CoverAscends = (M : List Route) (n : Block) → IsTable M → IsBlock n → AllPairs (λ r s. r.block.len < s.block.len) (covering M n)
 
 -- an address that n governs has the same match as n
 abbrev pub GovernedMatch : Type 0

@@ -1,19 +1,21 @@
 //! Theorems about tables: public functions without a body, whose contracts are the theorems.
 ghost use Rattle.route_laws.specs.Fewest.{FewestByHalves, FewestOfHost, GivenHops, HopsOfTable, LeastIsFewest};
-ghost use Rattle.route_laws.specs.Laws.{AllThenDel, BlocksOfChoices, ChangedByChoices, ChoicesAfter, ChoicesHaveOneHop, MatchOfChoices, NetworkRestored, NoneIsFree, OthersAreFree, RoutesAreTable, RoutesOfAdd, RoutesOfDel, RoutesOfOverwrite, SameTables, StaysStored, MatchIsLongest, GovernedMatch, GovernedBound, StaysTable, ChangedIsMaximal, AddedHaveOneHop, LeftHaveOneHop, ChangedByAdd, ChangedByDel, BlocksOfAdd, BlocksOfDel, GovernedAfter, AddThenDel, OtherFamilyAfterAdd, OtherFamilyAfterDel, FlatIsShortest, ShortestIsFlat, FlatIsAdmissible, SameFlat, SearchIsFlat, OwnIsMaximal, FlatIsBounded, FlatIsTable, FlatReadded, FlatRebuilds, ReaddedAreNew, OverwriteIsTable, HopsOfOverwrite, PagesAreRoutes, PagesEnd, MembersAfterAdd, MembersAfterDel, MatchAfterAdd, MatchAfterDel, ChangedIsShortest, ShortestIsChanged, MaximalIsChanged, EmptyIsFlat, OneRouteIsChanged, OneRouteHops, OneRouteIsFlat};
+ghost use Rattle.route_laws.specs.Laws.{AllThenDel, BlocksOfChoices, ChangedByChoices, ChoicesAfter, ChoicesHaveOneHop, MatchOfChoices, NetworkRestored, NoneIsFree, OthersAreFree, RoutesAreTable, RoutesOfAdd, RoutesOfDel, RoutesOfOverwrite, SameTables, StaysStored, CoverAscends, MatchIsLongest, GovernedMatch, GovernedBound, StaysTable, ChangedIsMaximal, AddedHaveOneHop, LeftHaveOneHop, ChangedByAdd, ChangedByDel, BlocksOfAdd, BlocksOfDel, GovernedAfter, AddThenDel, OtherFamilyAfterAdd, OtherFamilyAfterDel, FlatIsShortest, ShortestIsFlat, FlatIsAdmissible, SameFlat, SearchIsFlat, OwnIsMaximal, FlatIsBounded, FlatIsTable, FlatReadded, FlatRebuilds, ReaddedAreNew, OverwriteIsTable, HopsOfOverwrite, PagesAreRoutes, PagesEnd, MembersAfterAdd, MembersAfterDel, MatchAfterAdd, MatchAfterDel, ChangedIsShortest, ShortestIsChanged, MaximalIsChanged, EmptyIsFlat, OneRouteIsChanged, OneRouteHops, OneRouteIsFlat};
 
 pub use crate::operations::{between, nearest, paints, runs, updates};
 pub use route_choices::laws::choices;
 
-/// The match of a block is the longest stored network that contains it. Each address that a block governs has the same match as the
-/// block. The number of maximal blocks of these addresses is bounded.
+/// The match of a block is the longest stored network that contains it. The list of the networks that contain it begins with the
+/// shortest, and each one after it is longer. Each address that a block governs has the same match as the block. The number of maximal
+/// blocks of these addresses is bounded.
 pub fn matches()
     ensures longest { MatchIsLongest }
+    ensures cover { CoverAscends }
     ensures governed { GovernedMatch }
     ensures bound { GovernedBound }
 {}
 
-/// The routes of a table after a change, and the longest match of a block after it.
+/// The routes of a table after a change. The longest match of a block after an `add`, and after a `del` of another block than the match.
 pub fn held()
     ensures members_after_add { MembersAfterAdd }
     ensures members_after_del { MembersAfterDel }

@@ -11,7 +11,7 @@ pub fn between()
 {}
 
 /// Changes of a table, one after another, as calls of `paint` make them. A change gives all addresses of its block its hop, and changes no
-/// other address. The maximal blocks whose hop differs in two tables, as in a leader's reply, are such changes.
+/// other address. The maximal blocks whose hop differs in two tables, as in a leader's reply, are blocks of such changes.
 pub fn paints()
     ensures table { PaintedIsTable }
     ensures hops { HopsOfPainted }

@@ -209,8 +209,10 @@ impl RouteTable {
     /// assert_eq!(rt; all.next(), None);
     /// ```
     pub fn all(&self, net: &IpNet) -> route_choices::All<'_>
-        ensures { result ≡ choices_at self.now (block net.now) }
+        ensures choices { result ≡ choices_at self.now (block net.now) }
+        ensures table { IsStoredTable self.now }
     {
+        self.is_table();
         match cleared(net) {
             IpNet::V4(net) => self.v4.all(net),
             IpNet::V6(net) => self.v6.all(net),
@@ -240,7 +242,7 @@ impl RouteTable {
     /// assert_eq!(rt; routes.next(), None);
     /// ```
     pub fn list(&self, net: &IpNet) -> Routes<'_>
-        ensures { result ≡ routes_inside (routes_of self.now) (block net.now) }
+        ensures { AreRoutes (routes_of self.now) (routes_inside (routes_of self.now) (block net.now)) result }
     {
         self.inside(&cleared(net))
     }

@@ -41,7 +41,7 @@ impl RouteTable {
     /// assert_eq!(rt; shortest, Some((wide, Hop::Number(1), 100)));
     /// ```
     pub fn cover(&self, net: &IpNet) -> Routes<'_>
-        ensures { result ≡ covering (routes_of self.now) (block net.now) }
+        ensures { AreRoutes (routes_of self.now) (covering (routes_of self.now) (block net.now)) result }
     {
         match cleared(net) {
             IpNet::V4(net) => Routes::v4(self.v4.cover(net)),

@@ -176,9 +176,10 @@ fn greatest_block(rt: HostRuntime) {
 }
 
 /// Networks, and the last octets of their first and last host.
-const HOSTS: [(&str, u8, u8); 4] = [
+const HOSTS: [(&str, u8, u8); 5] = [
     ("10.0.0.0/30", 1, 2),
     ("10.0.0.0/31", 0, 1),
+    ("10.0.0.0/32", 0, 0),
     ("10.0.0.7/32", 7, 7),
     ("10.0.0.9/24", 1, 254),
 ];

@@ -14,7 +14,7 @@ reply-requires-clause-body g c = c.trunc.ensures.value ∙ sym (ap network_at (a
 pub returns : goal.returns
 returns g c =
     let cleared = ap block c.trunc.ensures.value ∙ of_network_at (block c.args.net) in
-    let lines = ap (λ b. map (choice_line b) c.all.result) cleared ∙ ap (map (choice_line (block c.args.net))) c.all.ensures in
+    let lines = ap (λ b. map (choice_line b) c.all.result) cleared ∙ ap (map (choice_line (block c.args.net))) c.all.ensures.choices in
     record {
       refused = false;
       reply = subst (λ ls. Closes g.W.Write.contents 1 c.args.writer.now c.reply.new.writer c.reply.result (printed (ls ++ Close Done ∷ []))) lines c.reply.ensures;
