@@ -164,10 +164,25 @@ fn least(rt: &HostRuntime, follower: &mut Follower) -> Result<(), Fault> {
     Ok(())
 }
 
-/// The hops of addresses with a reported hop, and of one without.
+/// Lines that change nothing.
+const UNCHANGED: [&str; 8] = [
+    "route 10.0.0.0/8 1 100",
+    "flat 10.0.0.0/8 1",
+    "own 10.0.0.0/8",
+    "count 2 1",
+    "none",
+    "bad",
+    "refused",
+    "ok",
+];
+
+/// Lines that change nothing, the hops of addresses with a reported hop, and that of one without.
 fn hops(rt: &HostRuntime, follower: &mut Follower) -> Result<(), Fault> {
     tell(follower, &TOLD)?;
     begin(rt);
+    for text in &UNCHANGED {
+        line(rt, &follower.line(text.as_bytes()));
+    }
     for first in [10, 11] {
         let addr = IpAddr::V4(Ipv4Addr::new(first, 1, 2, 3));
         line(rt, &follower.hop(addr));

@@ -3,7 +3,7 @@ ghost use Rattle.std.specs.Iterator.{IsFinite};
 
 use crate::fault::{Fault, made};
 use crate::show::{answer, begin, end, ended, ended_list, line, lines, part};
-use ipnet::{AddrParseError, IpNet, Ipv4Net, Ipv6Net};
+use ipnet::{AddrParseError, IpNet, Ipv4Net, Ipv6Net, ip_mask_to_prefix};
 use serde_json::Value;
 use std::alloc::{AllocError, Global};
 use std::fmt::{Debug, Display};
@@ -20,6 +20,7 @@ pub enum NetCall {
     ToValueMixed,
     Read,
     Print,
+    Part,
     Walk,
 }
 
@@ -50,6 +51,7 @@ pub fn run(rt: &HostRuntime, call: NetCall) -> Result<(), Fault> {
         NetCall::ToValueMixed => to_value::<IpNet>(rt, "::ffff:10.1.2.3/104"),
         NetCall::Read => read(rt),
         NetCall::Print => print(rt),
+        NetCall::Part => parts(rt),
         NetCall::Walk => walk(rt),
     }
 }
@@ -210,6 +212,31 @@ fn print_one(rt: &HostRuntime, net: &IpNet) {
     line(rt, &net.to_bytes().as_slice());
 }
 
+/// Parts of networks, and networks made of them.
+fn parts(rt: &HostRuntime) -> Result<(), Fault> {
+    let nets = networks(rt.alloc(), &IPV6, &IPV4)?;
+    begin(rt);
+    for net in nets.iter() {
+        addresses_of(rt, net);
+        networks_of(rt, net);
+    }
+    end(rt);
+    Ok(())
+}
+
+fn addresses_of(rt: &HostRuntime, net: &IpNet) {
+    line(rt, &(net.netmask(), net.hostmask()));
+    line(rt, &(net.network(), net.broadcast()));
+    line(rt, &ip_mask_to_prefix(net.netmask()));
+}
+
+fn networks_of(rt: &HostRuntime, net: &IpNet) {
+    line(rt, &IpNet::new(net.addr(), net.prefix_len()));
+    line(rt, &IpNet::with_netmask(net.addr(), net.netmask()));
+    line(rt, &(net.trunc(), net.supernet()));
+    line(rt, &(net.is_sibling(net), net.contains(net)));
+}
+
 /// Hosts and halves of networks.
 fn walk(rt: &HostRuntime) -> Result<(), Fault> {
     let ipv4: Ipv4Net = network("10.1.2.0/29")?;
@@ -243,5 +270,6 @@ fn walk_hosts<T: Debug + Drop, I: DoubleEndedIterator<Item = T>>(
 {
     lines(rt, "", hosts);
     let mut again = again;
+    line(rt, &again.size_hint());
     line(rt, &(again.next_back(), again.next()));
 }

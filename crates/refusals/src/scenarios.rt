@@ -29,7 +29,7 @@ pub enum Call {
 }
 
 /// The names and their calls.
-static SCENARIOS: [(&str, Call); 95] = [
+static SCENARIOS: [(&str, Call); 96] = [
     ("aggregate-ipv4", Net(NetCall::AggregateIpv4)),
     ("aggregate-ipv6", Net(NetCall::AggregateIpv6)),
     ("aggregate-mixed", Net(NetCall::AggregateMixed)),
@@ -38,6 +38,7 @@ static SCENARIOS: [(&str, Call); 95] = [
     ("to-value-mixed", Net(NetCall::ToValueMixed)),
     ("free-net-read", Net(NetCall::Read)),
     ("free-net-print", Net(NetCall::Print)),
+    ("free-net-parts", Net(NetCall::Part)),
     ("free-net-walks", Net(NetCall::Walk)),
     ("short-list-push", ShortList(ShortListCall::Push)),
     ("short-list-insert", ShortList(ShortListCall::Insert)),
