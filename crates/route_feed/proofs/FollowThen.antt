@@ -175,5 +175,5 @@ module _ {R W : Type 0} (remaining : R → Option (List ℕ)) (contents : W → 
 -- where the reader tells its bytes
 pub follow_known : {R W : Type 0} (remaining : R → Option (List ℕ)) (contents : W → Option (List ℕ)) (from to : Counted R) (old new : Counted W) (r : Result Unit RunError) → FollowEnds remaining contents from to old new r
     → OnOk r (IfSome (remaining from.device) (λ bytes. AreReplies (lines bytes) × Appends (contents old.device) (contents new.device) (followed bytes)))
-follow_known remaining contents from to old new (Ok done) x = Consumes-whole (remaining from.device) (remaining to.device) x.0.bytes _ x.0.read x.1 (x.0.holds.0, x.0.holds.1.appended)
+follow_known remaining contents from to old new (Ok done) x = Consumes-whole (remaining from.device) (remaining to.device) x.0.bytes _ x.0.read.0 x.1 (x.0.holds.0, x.0.holds.1.appended)
 follow_known remaining contents from to old new (Err e) x = tt

@@ -238,5 +238,5 @@ module _ {R W : Type 0} (remaining : R → Option (List ℕ)) (contents : W → 
 -- where the reader tells its bytes
 pub lead_known : {R W : Type 0} (remaining : R → Option (List ℕ)) (contents : W → Option (List ℕ)) (from to : Counted R) (old new : Counted W) (r : Result Unit RunError) → LeadEnds remaining contents from to old new r
     → OnOk r (IfSome (remaining from.device) (λ bytes. (refusals : List Bool) × Appends (contents old.device) (contents new.device) (output bytes refusals)))
-lead_known remaining contents from to old new (Ok done) x = Consumes-whole (remaining from.device) (remaining to.device) x.0.bytes _ x.0.read x.1 (x.0.holds.0, x.0.holds.1.appended)
+lead_known remaining contents from to old new (Ok done) x = Consumes-whole (remaining from.device) (remaining to.device) x.0.bytes _ x.0.read.0 x.1 (x.0.holds.0, x.0.holds.1.appended)
 lead_known remaining contents from to old new (Err e) x = tt

@@ -30,7 +30,7 @@ module _ {R W : Type 0} (remaining : R → Option (List ℕ)) (contents : W → 
     shorten_wants e is =
         let end = x.0 in
         subst (λ k. ShortenEnds remaining contents from to old mid (Err k)) (sym is)
-        (inr (inr (record { bytes = end.bytes; read = end.read; holds = end.replies }, end.at_end)), end.faults, x.1)
+        (inr (inr (record { bytes = end.bytes; read = end.read; holds = end.replies }, end.at_end)), record { faults = end.faults; failing = λ _. end.fails }, x.1)
 
     -- all was read, and the lines written
     pub shorten_ended : (new : Counted W) (routes : List Route) (r : Result Unit RunError) → IsLeast (hop_at (routes_of b.table)) routes → Delivers contents mid new r (add_lines routes) → ShortenEnds remaining contents from to old new r
@@ -53,5 +53,5 @@ pub shorten_known : {R W : Type 0} (remaining : R → Option (List ℕ)) (conten
     → OnOk r (IfSome (remaining from.device) (λ bytes. AreReplies (lines bytes) × AppendsLeast bytes (contents old.device) (contents new.device)))
 shorten_known remaining contents from to old new (Ok done) x =
     let s = x.0 in
-    Consumes-whole (remaining from.device) (remaining to.device) s.bytes _ s.read x.1 (s.holds.0, (s.holds.1.0, s.holds.1.1, s.holds.1.2.appended))
+    Consumes-whole (remaining from.device) (remaining to.device) s.bytes _ s.read.0 x.1 (s.holds.0, (s.holds.1.0, s.holds.1.1, s.holds.1.2.appended))
 shorten_known remaining contents from to old new (Err e) x = tt

@@ -10,7 +10,7 @@ use Rattle.route_program.specs.declared.counted.Counted.{Counted}
 use Rattle.route_program.specs.declared.error.RunError.{RunError}
 use Rattle.route_program.specs.declared.error.RunError.TheVariants as Why
 use Rattle.route_program.specs.Devices.{Closed, HasRead, HasReadAll, Torn}
-use Rattle.route_program.specs.Counted.{ReadFault}
+use Rattle.route_program.specs.Counted.{ReadFault, ReadWell}
 use Rattle.route_feed.specs.Replies.{printed}
 use Rattle.route_feed.specs.Steps.{flat_line}
 use Rattle.route_feed.specs.Streams.{committed, painted_hop, pending_over, replies_in, WantsMemory}
@@ -45,6 +45,6 @@ module _ {R W : Type 0} (remaining : R → Option (List ℕ)) (contents : W → 
   abbrev pub FollowEnds : Counted R → Counted R → Counted W → Counted W → Result Unit RunError → Type 0
   FollowEnds from to old new (Ok done) = HasReadAll remaining (λ bytes. AreReplies (lines bytes) × Closed contents 1 old new (followed bytes)) from to
   FollowEnds from to old new (Err Why.Read) = HasRead remaining (λ bytes. AreReplies (lines bytes)) from to × ReadFault from to × (new ≡ old)
-  FollowEnds from to old new (Err Why.Line) = MeetsAnother remaining from to × (to.faults ≡ from.faults) × (new ≡ old)
+  FollowEnds from to old new (Err Why.Line) = MeetsAnother remaining from to × ReadWell from to × (new ≡ old)
   FollowEnds from to old new (Err Why.Write) = HasReadAll remaining (λ bytes. AreReplies (lines bytes) × Torn contents old new (followed bytes)) from to
-  FollowEnds from to old new (Err Why.Memory) = ((to ≡ from) ⊎ HasRead remaining (λ bytes. MeetsWant (lines bytes)) from to) × (to.faults ≡ from.faults) × (new ≡ old)
+  FollowEnds from to old new (Err Why.Memory) = ((to ≡ from) ⊎ HasRead remaining (λ bytes. MeetsWant (lines bytes)) from to) × ReadWell from to × (new ≡ old)

@@ -1,6 +1,6 @@
 -- What an installer has done at the end of its input.
 use Rattle.std.proofs.Common.{◌≡◌, ℕ, zero, suc, ◌+◌, inr, ⊎_elim, Bool, true, false, cond, List, [], ◌∷◌, ◌++◌, map, IfSome, Option, None, Some, Result, Ok, Err, refl, sym, ap, ◌∙◌, subst, append-nil, MatchOption, OnOk, arith}
-use Rattle.std.specs.Io.KnownBytes.{Appends, Consumes}
+use Rattle.std.specs.Io.KnownBytes.{Appends}
 use Rattle.std.proofs.KnownBytes.{Appends-trans, Consumes-whole}
 use Rattle.std.proofs.lemmas.Grind.{flat_map-append}
 use Rattle.std.specs.Option.{option_map_or}
@@ -17,13 +17,13 @@ use Rattle.route_lines.specs.declared.fib_update.FibUpdate.{FibUpdate}
 use Rattle.route_program.specs.declared.counted.Counted.{Counted}
 use Rattle.route_program.specs.declared.error.RunError.{RunError}
 use Rattle.route_program.specs.declared.error.RunError.TheVariants as Why
-use Rattle.route_program.specs.Counted.{more_by, one_more}
+use Rattle.route_program.specs.Counted.{more_by, one_more, ReadWell}
 use Rattle.route_installer.specs.InnerInstalling.{AllFit, Fails, Takes, TakesNone, TakesNote, TakesNoteLine, update_line}
 use Rattle.route_program.specs.Run.{Runs, TakesAll}
 use Rattle.route_installer.specs.Installing.{AreNotes, Installing, IsUnfit, MayWant, Noted, after_note, after_notes, batches, begin, committing, event_of, events, installed_bytes, printed_updates, update_lines}
 use Rattle.route_installer.specs.Installs.{AppendsInstalled, WritesBatches, WritesBatchesThen, InstallEnds, Installs, Meets}
 use Rattle.route_feed.specs.Streams.{Change, closes, is_done}
-use Rattle.route_program.specs.Devices.{Closed}
+use Rattle.route_program.specs.Devices.{Closed, HasReturned}
 use Rattle.route_installer.proofs.ChangesInRange.{AreInRange, NoteInRange, are_changes, note_in_range, past_in_range}
 use Rattle.route_installer.proofs.NotesInTurn.{batches-append, events-append, lines-append, tables_after}
 use Rattle.route_feed.proofs.ReadLines.{of_notes, piece_spells}
@@ -266,7 +266,7 @@ module _ {W : Type 0} (contents : W → Option (List ℕ)) (c last : Installing)
 
 module _ {R W : Type 0} (remaining : R → Option (List ℕ)) (contents : W → Option (List ℕ)) (from to : Counted R) (old new : Counted W) where
   -- a line was not taken
-  module _ (bytes : List ℕ) (read : Consumes (remaining from.device) (remaining to.device) bytes) (none_read : to.faults ≡ from.faults) where
+  module _ (bytes : List ℕ) (read : HasReturned remaining from to bytes) (well : ReadWell from to) where
     meets : (e : RunError) → Stops contents begin (lines bytes) e old new → Meets remaining from to
     meets e s = record {
       bytes = bytes;
@@ -285,7 +285,7 @@ module _ {R W : Type 0} (remaining : R → Option (List ℕ)) (contents : W → 
         let c = after_notes begin s.notes in
         let u = unfit contents c s.last s.piece s.mid new (note_of s.piece) (why_not contents c s.last s.piece s.mid new Why.Line s.stops) in (
           record { meets = meets Why.Line s; unfit = u.0; gives = subst (WritesBatches contents s.notes old) (sym u.1) (gives_output contents c s.before s.notes old s.mid s.taken) },
-          none_read,
+          well,
           ap (λ w. w.faults) u.1 ∙ s.taken.closed.faults,
         )
     line_ends Why.Memory s =
@@ -299,7 +299,7 @@ module _ {R W : Type 0} (remaining : R → Option (List ℕ)) (contents : W → 
             wants = wants;
             gives = subst (WritesBatches contents s.notes old) (sym same) (gives_output contents c s.before s.notes old s.mid s.taken);
           },
-          none_read,
+          well,
           ap (λ v. v.faults) same ∙ s.taken.closed.faults,
         )
     line_ends Why.Write s =
@@ -315,7 +315,7 @@ module _ {R W : Type 0} (remaining : R → Option (List ℕ)) (contents : W → 
             is_front = f.torn.is_front;
             gives = gives_then contents c s.before s.notes f.torn.front old s.mid new s.taken f.torn.appended f.torn.flushes;
           },
-          none_read,
+          well,
           (f.torn.failed.0 ∙ ap (λ n. n + 1) s.taken.closed.faults, f.torn.failed.1),
         )
     line_ends Why.Read s =
@@ -324,7 +324,7 @@ module _ {R W : Type 0} (remaining : R → Option (List ℕ)) (contents : W → 
 
   module _ (a b : Installing) (is_new : a ≡ begin) where
     -- all lines of these bytes were taken
-    all_are : (bytes : List ℕ) → Consumes (remaining from.device) (remaining to.device) bytes → TakesLines contents a (lines_in bytes) old (Ok tt) b new → Installs remaining contents from to old new × (new.faults ≡ old.faults)
+    all_are : (bytes : List ℕ) → HasReturned remaining from to bytes → TakesLines contents a (lines_in bytes) old (Ok tt) b new → Installs remaining contents from to old new × (new.faults ≡ old.faults)
     all_are bytes read t =
         let p = all_taken contents begin b (lines bytes) old new (subst (λ s. TakesLines contents s (lines_in bytes) old (Ok tt) b new) is_new t) in
         let ns = p.0 in (
@@ -348,5 +348,5 @@ pub install_known : {R W : Type 0} (remaining : R → Option (List ℕ)) (conten
     → OnOk r (IfSome (remaining from.device) (λ bytes. AppendsInstalled (lines bytes) (contents old.device) (contents new.device)))
 install_known remaining contents from to old new (Ok done) x =
     let s = x.0 in
-    Consumes-whole (remaining from.device) (remaining to.device) s.bytes _ s.read x.1 (s.notes, s.are, s.gives.written)
+    Consumes-whole (remaining from.device) (remaining to.device) s.bytes _ s.read.0 x.1 (s.notes, s.are, s.gives.written)
 install_known remaining contents from to old new (Err e) x = tt

@@ -1,13 +1,14 @@
 -- The effect of `install` on its devices, by its result.
 use Rattle.std.specs.Prelude.{◌≡◌, ◌<◌, ℕ, ◌⊎◌, List, [], ◌∷◌, ◌++◌, length, Option, Some, Result, Ok, Err, false}
-use Rattle.std.specs.Io.KnownBytes.{Appends, Consumes, IsAtEnd}
+use Rattle.std.specs.Io.KnownBytes.{Appends, IsAtEnd}
 use Rattle.route_lines.specs.Bytes.{lines}
 use Rattle.route_lines.specs.Spelled.{note_of}
 use Rattle.route_lines.specs.declared.fib_input.FibInput.{FibInput}
 use Rattle.route_program.specs.declared.counted.Counted.{Counted}
 use Rattle.route_program.specs.declared.error.RunError.{RunError}
 use Rattle.route_program.specs.declared.error.RunError.TheVariants as Why
-use Rattle.route_program.specs.Counted.{more_by, FailedLast, Flushed, ReadFault}
+use Rattle.route_program.specs.Counted.{more_by, FailedLast, Flushed, ReadFault, ReadWell}
+use Rattle.route_program.specs.Devices.{HasReturned}
 use Rattle.route_installer.specs.Installing.{AreNotes, IsUnfit, MayWant, Noted, after_notes, batches_given, begin, installed_bytes, noted_bytes}
 
 -- the pieces are notes, and their output was written
@@ -33,7 +34,7 @@ module _ {R : Type 0} (remaining : R → Option (List ℕ)) where
     pub before : List (List ℕ)
     pub piece : List ℕ
     pub after : List (List ℕ)
-    pub read : Consumes (remaining from.device) (remaining to.device) bytes
+    pub read : HasReturned remaining from to bytes
     pub split : lines bytes ≡ before ++ piece ∷ after
     pub are : AreNotes before notes
 
@@ -42,7 +43,7 @@ module _ {R W : Type 0} (remaining : R → Option (List ℕ)) (contents : W → 
   pub record Installs (from to : Counted R) (old new : Counted W) : Type 0 where
     pub bytes : List ℕ
     pub notes : List Noted
-    pub read : Consumes (remaining from.device) (remaining to.device) bytes
+    pub read : HasReturned remaining from to bytes
     pub are : AreNotes (lines bytes) notes
     pub gives : WritesBatches contents notes old new
 
@@ -80,7 +81,7 @@ module _ {R W : Type 0} (remaining : R → Option (List ℕ)) (contents : W → 
   InstallEnds from to old new (Ok done) =
       Installs from to old new × IsAtEnd (remaining to.device) × (to.faults ≡ from.faults) × (to.failing ≡ false) × (new.faults ≡ old.faults)
   InstallEnds from to old new (Err Why.Read) = Installs from to old new × ReadFault from to × (new.faults ≡ old.faults)
-  InstallEnds from to old new (Err Why.Line) = MeetsUnfit from to old new × (to.faults ≡ from.faults) × (new.faults ≡ old.faults)
-  InstallEnds from to old new (Err Why.Write) = MeetsFault from to old new × (to.faults ≡ from.faults) × FailedLast old new
+  InstallEnds from to old new (Err Why.Line) = MeetsUnfit from to old new × ReadWell from to × (new.faults ≡ old.faults)
+  InstallEnds from to old new (Err Why.Write) = MeetsFault from to old new × ReadWell from to × FailedLast old new
   InstallEnds from to old new (Err Why.Memory) =
-      ((to ≡ from) × (new ≡ old)) ⊎ (MeetsWanting from to old new × (to.faults ≡ from.faults) × (new.faults ≡ old.faults))
+      ((to ≡ from) × (new ≡ old)) ⊎ (MeetsWanting from to old new × ReadWell from to × (new.faults ≡ old.faults))

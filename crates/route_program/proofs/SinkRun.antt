@@ -1,5 +1,5 @@
 -- Lines taken one after another.
-use Rattle.std.proofs.Common.{◌≡◌, ◌≢◌, ℕ, ◌+◌, ◌-◌, ◌<◌, All, eq-eqb, eqb-true, inl, inr, ⊎_elim, List, [], ◌∷◌, ◌++◌, length, take, drop, suc, get_or, Option, Some, Result, Ok, Err, refl, sym, ap, ◌∙◌, subst, append_assoc, take-append-drop, option_to_list, drop-cons, OnOk, arith}
+use Rattle.std.proofs.Common.{◌≡◌, ◌≢◌, ℕ, ◌+◌, ◌-◌, ◌<◌, ◌≤◌, All, eq-eqb, eqb-true, inl, inr, ⊎_elim, List, [], ◌∷◌, ◌++◌, length, length-append, take, drop, suc, get_or, Option, Some, Result, Ok, Err, refl, sym, ap, ◌∙◌, subst, append_assoc, take-append-drop, option_to_list, drop-cons, OnOk, arith}
 use Rattle.route_lines.specs.Kept.{Kept}
 use Rattle.std.proofs.lemmas.Result.{on_ok_weaker}
 use Rattle.std.specs.Io.KnownBytes.{Consumes}
@@ -73,29 +73,31 @@ module _ {S W : Type 0} (takes : S → Line → Counted W → Result Unit RunErr
   pub takes_longer : (a c : S) (k : Kept) (bs cs : List ℕ) (u w : Counted W) (e : RunError) → TakesAll takes a (answers k bs) u (Err e) c w → TakesAll takes a (answers k (bs ++ cs)) u (Err e) c w
   takes_longer a c k bs cs u w e p = subst (λ ls. TakesAll takes a ls u (Err e) c w) (sym (answers-append k bs cs)) (TakesAll-longer a c (answers k bs) (answers (fed_all k bs) cs) u w e p)
 
--- the reader gave some bytes, and the lines that they end were taken
-pub record Went {S R W : Type 0} (takes : S → Line → Counted W → Result Unit RunError → S → Counted W → Type 0) (remaining : R → Option (List ℕ))
+-- the reader gave some bytes, in at most `more` calls more than these are, and the lines that they end were taken
+pub record Went {S R W : Type 0} (takes : S → Line → Counted W → Result Unit RunError → S → Counted W → Type 0) (remaining : R → Option (List ℕ)) (more : ℕ)
     (a : S) (from : Counted R) (old : Counted W) (result : Result Unit RunError) (b : S) (to : Counted R) (new : Counted W) (cutter : Kept) : Type 0 where
   pub bytes : List ℕ
   pub read : Consumes (remaining from.device) (remaining to.device) bytes
+  pub few : to.reads ≤ from.reads + length bytes + more
   pub taken : TakesAll takes a (answers (kept_of []) bytes) old result b new
   pub kept : OnOk result (cutter ≡ fed_all (kept_of []) bytes)
 
 module _ {S R W : Type 0} (takes : S → Line → Counted W → Result Unit RunError → S → Counted W → Type 0) (remaining : R → Option (List ℕ)) where
-  pub Went-nil : (a : S) (r : Counted R) (u : Counted W) → Went takes remaining a r u (Ok tt) a r u (kept_of [])
-  Went-nil a r u = record { bytes = []; read = Consumes-nil (remaining r.device); taken = (refl, refl, refl); kept = refl }
+  pub Went-nil : (a : S) (r : Counted R) (u : Counted W) → Went takes remaining 0 a r u (Ok tt) a r u (kept_of [])
+  Went-nil a r u = record { bytes = []; read = Consumes-nil (remaining r.device); few = omega arith; taken = (refl, refl, refl); kept = refl }
 
   -- some more bytes came
-  pub Went-more : (a b c : S) (p q r : Counted R) (u v w : Counted W) (k m : Kept) (piece : List ℕ) (result : Result Unit RunError) → Went takes remaining a p u (Ok tt) b q v k
-      → Consumes (remaining q.device) (remaining r.device) piece → TakesAll takes b (answers k piece) v result c w → OnOk result (m ≡ fed_all k piece)
-      → Went takes remaining a p u result c r w m
-  Went-more a b c p q r u v w k m piece result x read taken fed = record {
+  pub Went-more : (more : ℕ) (a b c : S) (p q r : Counted R) (u v w : Counted W) (k m : Kept) (piece : List ℕ) (result : Result Unit RunError) → Went takes remaining 0 a p u (Ok tt) b q v k
+      → r.reads ≤ q.reads + length piece + more → Consumes (remaining q.device) (remaining r.device) piece → TakesAll takes b (answers k piece) v result c w → OnOk result (m ≡ fed_all k piece)
+      → Went takes remaining more a p u result c r w m
+  Went-more more a b c p q r u v w k m piece result x few read taken fed = record {
     bytes = x.bytes ++ piece;
     read = Consumes-trans _ _ _ x.bytes piece x.read read;
+    few = let f = x.few in omega (arith, f, few, length-append x.bytes piece);
     taken = takes_more takes a b c (kept_of []) k x.bytes piece u v w result x.taken x.kept taken;
     kept = on_ok_weaker result (λ e. e ∙ ap (λ n. fed_all n piece) x.kept ∙ sym (fed_all-append (kept_of []) x.bytes piece)) fed;
   }
 
   -- the lines that they end are those of the bytes
-  pub went_lines : (a b : S) (p q : Counted R) (u v : Counted W) (k : Kept) (result : Result Unit RunError) (x : Went takes remaining a p u result b q v k) → TakesAll takes a (lines_in x.bytes) u result b v
-  went_lines a b p q u v k result x = subst (λ ls. TakesAll takes a ls u result b v) (new_answers x.bytes) x.taken
+  pub went_lines : (more : ℕ) (a b : S) (p q : Counted R) (u v : Counted W) (k : Kept) (result : Result Unit RunError) (x : Went takes remaining more a p u result b q v k) → TakesAll takes a (lines_in x.bytes) u result b v
+  went_lines more a b p q u v k result x = subst (λ ls. TakesAll takes a ls u result b v) (new_answers x.bytes) x.taken

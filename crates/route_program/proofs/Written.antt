@@ -1,11 +1,11 @@
 -- Writes one after another.
-use Rattle.std.proofs.Common.{◌≡◌, ◌==◌, ne_eqb, ℕ, zero, suc, ◌<◌, ◌≤◌, ◌+◌, ◌-◌, ◌^◌, Bool, true, false, not, ◌&&◌, ◌||◌, codes, List, [], ◌∷◌, ◌++◌, length, Option, Result, Ok, Err, refl, sym, ap, ◌∙◌, subst, append_assoc, append-nil, arith}
+use Rattle.std.proofs.Common.{◌≡◌, ◌==◌, ne_eqb, ℕ, zero, suc, ◌<◌, ◌≤◌, ◌+◌, ◌-◌, ◌^◌, Bool, true, false, not, ◌&&◌, ◌||◌, List, [], ◌∷◌, ◌++◌, length, Option, Result, Ok, Err, refl, sym, ap, ◌∙◌, subst, append_assoc, append-nil, arith}
 use Rattle.std.specs.Io.KnownBytes.{Appends}
 use Rattle.std.proofs.KnownBytes.{Appends-nil, Appends-trans}
 use Rattle.std.proofs.lemmas.Bool.{or_right, and_right}
 use Rattle.route_program.specs.declared.error.RunError.{RunError}
 use Rattle.route_program.specs.declared.counted.Counted.{Counted}
-use Rattle.route_program.specs.Counted.{MoreByIsMin, one_more, more_by, more_if, Flushed}
+use Rattle.route_program.specs.Counted.{MoreByIsMin, one_more, more_by, Flushed}
 use Rattle.route_program.specs.Devices.{Written, Delivers, has_bytes, Closed, Torn, Closes}
 
 -- a text of two has bytes where one of them has
@@ -20,11 +20,6 @@ none_has (b ∷ s) t fails = and_right (not (has_bytes t)) false refl
 pub has_some : (text : List ℕ) → 0 < length text → has_bytes text ≡ true
 has_some [] h = absurd (omega arith)
 has_some (b ∷ text) h = refl
-
--- a line has bytes
-pub line_has : (text : List ℕ) → has_bytes (text ++ codes "\n") ≡ true
-line_has [] = refl
-line_has (b ∷ text) = refl
 
 -- whether bytes wait after so many flushes
 abbrev pub waits_after : ℕ → Bool → Bool
@@ -103,14 +98,14 @@ module _ {W : Type 0} (contents : W → Option (List ℕ)) where
   Delivers-after a b c (Ok x) s p q = record {
     appended = subst (Appends (contents a.device) (contents c.device)) (append-nil s) (Appends-trans _ _ _ s [] p.appended q.appended);
     faults = q.faults ∙ p.faults;
-    flushed = (q.flushed.0 ∙ ap (λ w. more_if w b.flushes) p.waits ∙ ap (more_if (has_bytes s || a.waiting)) p.flushes, q.flushed.1, q.flushed.2);
+    flushed = (q.flushed.0 ∙ ap one_more p.flushes, q.flushed.1, q.flushed.2);
   }
   Delivers-after a b c (Err e) s p q = (q.0, subst (Torn contents a c) (append-nil s) (Torn-after a b c s [] p q.1))
 
-  -- a flush of bytes that waited closes a reply
-  pub Closes-delivered : {T : Type 0} (a b : Counted W) (r : Result T RunError) → a.waiting ≡ true → Delivers contents a b r [] → Closes contents 1 a b r []
-  Closes-delivered a b (Ok x) waits q = record { appended = q.appended; faults = q.faults; flushed = (q.flushed.0 ∙ ap (λ w. more_if w a.flushes) waits, q.flushed.1, q.flushed.2) }
-  Closes-delivered a b (Err e) waits q = q
+  -- a flush closes a reply
+  pub Closes-delivered : {T : Type 0} (a b : Counted W) (r : Result T RunError) → Delivers contents a b r [] → Closes contents 1 a b r []
+  Closes-delivered a b (Ok x) q = record { appended = q.appended; faults = q.faults; flushed = q.flushed }
+  Closes-delivered a b (Err e) q = q
 
   -- and then nothing more
   pub Closes-end : {T : Type 0} (a b c : Counted W) (r : Result T RunError) (s : List ℕ) → Written contents a b s → Closes contents 1 b c r [] → Closes contents 1 a c r s

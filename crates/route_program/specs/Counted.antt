@@ -1,5 +1,5 @@
 -- The counts of a counted device.
-use Rattle.std.specs.Prelude.{◌≡◌, ℕ, zero, suc, ◌⊎◌, ◌≤◌, ◌+◌, ◌-◌, ◌^◌, ◌<◌, ◌==◌, min, nat_lt, Bool, true, false, ◌&&◌, ◌||◌, if◌then◌else◌, is_some, slice_get, List, Result, Ok, Err}
+use Rattle.std.specs.Prelude.{◌≡◌, ℕ, zero, suc, ◌⊎◌, ◌≤◌, ◌+◌, ◌-◌, ◌^◌, ◌<◌, ◌==◌, min, nat_lt, Bool, true, false, ◌&&◌, if◌then◌else◌, Result, Ok, Err}
 use Rattle.route_program.specs.declared.counted.Counted.{Counted}
 
 -- n + 1, up to the greatest u64
@@ -45,14 +45,19 @@ CanRun reader writer = CanRead reader × (writer.faults < 2 ^ 63)
 abbrev pub FailedLast : {D : Type 0} → Counted D → Counted D → Type 0
 FailedLast from to = (to.faults ≡ from.faults + 1) × (to.failing ≡ true)
 
+-- no read failed; the reader isn't failing, unless its last call before was a fault
+pub record ReadWell {R : Type 0} (from to : Counted R) : Type 0 where
+  pub faults : to.faults ≡ from.faults
+  pub failing : from.failing ≡ false → to.failing ≡ false
+
 -- the reader failed, and was not called again; or it was called 2^62 times, and never failed
 abbrev pub ReadFault : {R : Type 0} → Counted R → Counted R → Type 0
 ReadFault from to = FailedLast from to ⊎ ((from.reads + 2 ^ 62 ≤ to.reads) × (to.faults ≡ from.faults))
 
--- bytes were written and then flushed, `times` times, nothing was written after that, and the last call was no fault
+-- bytes were written and then flushed, `times` times, with no other flush, nothing was written after that, and the last call was no fault
 abbrev pub Flushed : {W : Type 0} → ℕ → Counted W → Counted W → Type 0
 Flushed times old new = (new.flushes ≡ more_by times old.flushes) × (new.waiting ≡ (times == 0 && old.waiting)) × (new.failing ≡ (times == 0 && old.failing))
 
--- unflushed bytes and this text, if there are any, were flushed once; nothing is unflushed, and the last call was no fault
-abbrev pub FlushedAll : {W : Type 0} → List ℕ → Counted W → Counted W → Type 0
-FlushedAll text old new = (new.flushes ≡ if is_some (slice_get text 0) || old.waiting then one_more old.flushes else old.flushes) × (new.waiting ≡ false) × (new.failing ≡ false)
+-- there was one flush, nothing is unflushed, and the last call was no fault
+abbrev pub FlushedAll : {W : Type 0} → Counted W → Counted W → Type 0
+FlushedAll old new = (new.flushes ≡ one_more old.flushes) × (new.waiting ≡ false) × (new.failing ≡ false)

@@ -1,5 +1,5 @@
 -- The input and the output of devices: bytes that were read, and texts of replies that were written and flushed.
-use Rattle.std.specs.Prelude.{◌≡◌, ℕ, Bool, not, ◌&&◌, ◌||◌, List, ◌++◌, Option, is_some, slice_get, Result, Ok, Err, codes, false}
+use Rattle.std.specs.Prelude.{◌≡◌, ◌≤◌, ◌+◌, ℕ, Bool, not, ◌&&◌, ◌||◌, List, ◌++◌, length, Option, is_some, slice_get, Result, Ok, Err, codes, false}
 use Rattle.std.specs.Io.KnownBytes.{Appends, Consumes, IsAtEnd}
 use Rattle.route_lines.specs.Texts.{closing_text}
 use Rattle.route_lines.specs.declared.reply.Closing.{Closing}
@@ -8,10 +8,14 @@ use Rattle.route_program.specs.declared.error.RunError.{RunError}
 use Rattle.route_program.specs.declared.error.RunError.TheVariants.{Write}
 use Rattle.route_program.specs.Counted.{FailedLast, Flushed, FlushedAll}
 
+-- the reader returned these bytes, in at most one call more than there are bytes
+abbrev pub HasReturned : {R : Type 0} → (R → Option (List ℕ)) → Counted R → Counted R → List ℕ → Type 0
+HasReturned remaining from to bytes = Consumes (remaining from.device) (remaining to.device) bytes × (to.reads ≤ from.reads + length bytes + 1)
+
 -- the reader returned some bytes, and P holds of them
 pub record HasRead {R : Type 0} (remaining : R → Option (List ℕ)) (P : List ℕ → Type 0) (from to : Counted R) : Type 0 where
   pub bytes : List ℕ
-  pub read : Consumes (remaining from.device) (remaining to.device) bytes
+  pub read : HasReturned remaining from to bytes
   pub holds : P bytes
 
 -- the reader returned all its bytes, P holds of them, and no read failed
@@ -37,7 +41,7 @@ module _ {W : Type 0} (contents : W → Option (List ℕ)) where
   pub record Delivered (old new : Counted W) (text : List ℕ) : Type 0 where
     pub appended : Appends (contents old.device) (contents new.device) text
     pub faults : new.faults ≡ old.faults
-    pub flushed : FlushedAll text old new
+    pub flushed : FlushedAll old new
 
   -- a beginning of the text was written, and none of it was flushed; then the writer failed, in its last call
   pub record Torn (old new : Counted W) (text : List ℕ) : Type 0 where

@@ -1,6 +1,6 @@
 -- The effect of a run on the lines of its input.
 use Rattle.std.specs.Prelude.{◌≡◌, ℕ, ◌⊎◌, List, [], ◌∷◌, Option, Result, Ok, Err, IsErr, false}
-use Rattle.std.specs.Io.KnownBytes.{Consumes, IsAtEnd}
+use Rattle.std.specs.Io.KnownBytes.{IsAtEnd}
 use Rattle.route_lines.specs.Bytes.{rest}
 use Rattle.route_lines.specs.Lines.{lines_in, rest_of}
 use Rattle.route_lines.specs.declared.cutter.Line.{Line}
@@ -8,7 +8,8 @@ use Rattle.route_lines.specs.declared.cutter.Rest.{Rest}
 use Rattle.route_program.specs.declared.counted.Counted.{Counted}
 use Rattle.route_program.specs.declared.error.RunError.{RunError}
 use Rattle.route_program.specs.declared.error.RunError.TheVariants.{Read}
-use Rattle.route_program.specs.Counted.{ReadFault}
+use Rattle.route_program.specs.Counted.{ReadFault, ReadWell}
+use Rattle.route_program.specs.Devices.{HasReturned}
 
 -- `takes` is the effect of receiving a line, by the result
 module _ {S W : Type 0} (takes : S → Line → Counted W → Result Unit RunError → S → Counted W → Type 0) where
@@ -26,10 +27,10 @@ module _ {S W : Type 0} (takes : S → Line → Counted W → Result Unit RunErr
         TakesAll a (lines_in bytes) old (Ok tt) b new × (left ≡ rest_of (rest bytes)) × IsAtEnd (remaining to.device) × (to.faults ≡ from.faults) × (to.failing ≡ false)
     RunEnds bytes a from old (Err e) b to new =
         (TakesAll a (lines_in bytes) old (Ok tt) b new × (e ≡ Read) × ReadFault from to)
-        ⊎ (TakesAll a (lines_in bytes) old (Err e) b new × (to.faults ≡ from.faults))
+        ⊎ (TakesAll a (lines_in bytes) old (Err e) b new × ReadWell from to)
 
     -- the reader returned some bytes, and the run over them ended in this way
     pub record Runs (a : S) (from : Counted R) (old : Counted W) (result : Result Rest RunError) (b : S) (to : Counted R) (new : Counted W) : Type 0 where
       pub bytes : List ℕ
-      pub read : Consumes (remaining from.device) (remaining to.device) bytes
+      pub read : HasReturned remaining from to bytes
       pub ends : RunEnds bytes a from old result b to new

@@ -7,7 +7,7 @@ ghost use Rattle.route_program.specs.Counted.{one_more, more_if, took_none, took
 use std::io;
 use std::io::{Read, Write};
 
-/// A reader or a writer that counts its `read` calls, its faults, and the flushes that followed written bytes.
+/// A reader or a writer that counts its `read` calls, its faults, and its successful flushes.
 ///
 /// It passes on `read`, `write` and `flush`. Its contracts say as much about its bytes as those of the device.
 ///
@@ -107,7 +107,7 @@ impl<D> Counted<D> {
         self.waiting
     }
 
-    /// Returns the number of flushes that followed written bytes. It stays at the greatest `u64`.
+    /// Returns the number of successful flushes. It stays at the greatest `u64`.
     ///
     /// # Examples
     /// After `lead_line`; `row_is` compares its last two arguments:
@@ -185,11 +185,11 @@ impl<W: Write> Write for Counted<W> {
         ensures faults { self.new.faults ≡ more_if (is_err result) self.old.faults }
         ensures failing { self.new.failing ≡ is_err result }
         ensures waiting { self.new.waiting ≡ (is_err result && self.old.waiting) }
-        ensures flushes { self.new.flushes ≡ more_if (not (is_err result) && self.old.waiting) self.old.flushes }
+        ensures flushes { self.new.flushes ≡ more_if (not (is_err result)) self.old.flushes }
     {
         let result = self.device.flush();
         self.count(result.is_err());
-        if result.is_ok() && self.waiting {
+        if result.is_ok() {
             self.waiting = false;
             self.flushes = self.flushes.saturating_add(1);
         }

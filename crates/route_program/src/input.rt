@@ -1,7 +1,7 @@
 //! The input, which knows whether more lines are available.
 ghost use Rattle.std.specs.Io.{ReadsAtMost};
 ghost use Rattle.std.specs.Io.KnownBytes.{ReadConsumes, prepend_known};
-ghost use Rattle.std.specs.Prelude.{◌≡◌, ◌<◌, ◌≤◌, ◌+◌, [], drop, is_err, length};
+ghost use Rattle.std.specs.Prelude.{◌≡◌, ◌<◌, ◌≤◌, ◌+◌, [], drop, false, is_err, length};
 ghost use Rattle.route_program.specs.Counted.{more_if};
 
 use crate::counted::Counted;
@@ -29,6 +29,8 @@ impl<'a, R> Input<'a, R> {
     pub fn new(device: R, more: &'a Cell<bool>) -> Input<'a, R>
         ensures device { result.device.device ≡ device }
         ensures counts { (result.device.reads ≡ 0) × (result.device.faults ≡ 0) }
+        ensures flushes { (result.device.flushes ≡ 0) × (result.device.waiting ≡ false) }
+        ensures failing { result.device.failing ≡ false }
         ensures kept { drop result.start result.kept.items ≡ [] }
     {
         Input {

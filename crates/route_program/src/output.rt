@@ -1,8 +1,8 @@
 //! The output, which delays flushes while more lines are available, and its end.
 ghost use Rattle.std.specs.Io.{WritesAtMost};
-ghost use Rattle.std.specs.Io.Buffered.{writer_contents};
+ghost use Rattle.std.specs.Io.Buffered.{writer_contents, writer_inner};
 ghost use Rattle.std.specs.Io.KnownBytes.{Keeps, WriteAppends};
-ghost use Rattle.std.specs.Prelude.{◌≡◌, IfErr, IfOk, is_err, length};
+ghost use Rattle.std.specs.Prelude.{◌≡◌, false, IfErr, IfOk, is_err, length};
 ghost use Rattle.route_program.specs.Counted.{more_if, took_none};
 
 use crate::counted::Counted;
@@ -26,6 +26,8 @@ impl<'a, W: Drop> Output<'a, W> {
     pub fn new(device: W, more: &'a Cell<bool>) -> Output<'a, W>
         ensures device { result.device.device ≡ device }
         ensures counts { (result.device.reads ≡ 0) × (result.device.faults ≡ 0) }
+        ensures flushes { (result.device.flushes ≡ 0) × (result.device.waiting ≡ false) }
+        ensures failing { result.device.failing ≡ false }
     {
         Output {
             device: Counted::new(device),
@@ -81,7 +83,10 @@ pub fn write_out<W: Write + Drop>(buffered: BufWriter<W>) -> Result<W, RunError>
     }
 }
 
-/// Drops a writer; the bytes that it has gathered are not written.
-pub fn release<W: Write + Drop>(buffered: BufWriter<W>) {
-    let (_output, _unwritten) = buffered.into_parts();
+/// Returns the output of a writer. The bytes that the writer has gathered are not written.
+pub fn release<W: Write + Drop>(buffered: BufWriter<W>) -> W
+    ensures { result ≡ writer_inner buffered }
+{
+    let (output, _unwritten) = buffered.into_parts();
+    output
 }

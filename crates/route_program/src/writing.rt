@@ -31,7 +31,7 @@ pub fn write_piece<W: Write>(writer: &mut Counted<W>, piece: &[u8]) -> Result<()
     Ok(())
 }
 
-/// Flushes the writer. A flush counts if bytes were written since the last one. The writer must have counted fewer than 2^64 - 1 faults.
+/// Flushes the writer. The writer must have counted fewer than 2^64 - 1 faults.
 ///
 /// # Errors
 /// Only `Write`: if `flush` fails.

@@ -114,15 +114,13 @@ impl Write for Held {
     }
 }
 
-/// The number of `flush` calls that directly follow a byte.
+/// The number of `flush` calls.
 pub(crate) fn flushes_in(done: &[u8]) -> u64 {
     let mut count = 0u64;
-    let mut waiting = false;
     for byte in done {
-        if *byte == b'|' && waiting {
+        if *byte == b'|' {
             count = count.wrapping_add(1);
         }
-        waiting = *byte != b'|';
     }
     count
 }

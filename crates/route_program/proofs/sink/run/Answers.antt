@@ -1,4 +1,4 @@
-use Rattle.std.proofs.Common.{inl, inr, take, Ok, Err, refl, ap, ◌∙◌, arith}
+use Rattle.std.proofs.Common.{inl, inr, length-take-le, take, Ok, Err, refl, ap, ◌∙◌, arith}
 use Rattle.std.proofs.KnownBytes.{Consumes-kept}
 use Rattle.std.proofs.lemmas.Result.{err_from_is_err_and}
 use Rattle.route_lines.specs.Lines.{rest_in}
@@ -18,9 +18,10 @@ pub loop-read-preserved : goal.loop-read-preserved
 loop-read-preserved g c =
     let inv = c.loop-read.invariant in
     let piece = take c.in-Ok.count c.read.new.buf in
+    let count = length-take-le c.in-Ok.count c.read.new.buf (omega (arith, c.in-Ok.ensures.bound)) in
     record {
-      went = Went-more g.S.Sink.takes g.R.Read.remaining c.args.sink.now c.loop-read.sink c.take_piece.new.sink c.args.reader.now c.loop-read.reader c.read.new.self c.args.writer.now c.loop-read.writer c.take_piece.new.writer
-          c.loop-read.cutter c.take_piece.new.cutter piece (Ok tt) inv.went c.in-Ok.ensures.bytes.0 c.in_ok-take_piece.ensures.takes c.in_ok-take_piece.ensures.cutter;
+      went = Went-more g.S.Sink.takes g.R.Read.remaining 0 c.args.sink.now c.loop-read.sink c.take_piece.new.sink c.args.reader.now c.loop-read.reader c.read.new.self c.args.writer.now c.loop-read.writer c.take_piece.new.writer
+          c.loop-read.cutter c.take_piece.new.cutter piece (Ok tt) inv.went (omega (arith, c.in-Ok.ensures.reads, count, c.if-count-eq0.false)) c.in-Ok.ensures.bytes.0 c.in_ok-take_piece.ensures.takes c.in_ok-take_piece.ensures.cutter;
       can = c.in_ok-take_piece.ensures.others;
       reads = omega (arith, c.in-Ok.ensures.reads, inv.reads, c.requires.reader.0);
       faults = c.in-Ok.ensures.faults ∙ inv.faults;
@@ -30,30 +31,30 @@ pub returns-in_err-take_piece-clause-runs : goal.returns-in_err-take_piece-claus
 returns-in_err-take_piece-clause-runs g c =
     let p = err_from_is_err_and c.from_residual.result c.from_residual.ensures.1 in
     let inv = c.loop-read.invariant in
-    let went = Went-more g.S.Sink.takes g.R.Read.remaining c.args.sink.now c.loop-read.sink c.take_piece.new.sink c.args.reader.now c.loop-read.reader c.read.new.self c.args.writer.now c.loop-read.writer c.take_piece.new.writer
-    c.loop-read.cutter c.take_piece.new.cutter (take c.in-Ok.count c.read.new.buf) (Err c.in_err-take_piece.field-0.0) inv.went c.in-Ok.ensures.bytes.0 c.in_err-take_piece.ensures.takes tt in
-    rw (p.1, p.2) (record { bytes = went.bytes; read = went.read; ends = inr (went_lines g.S.Sink.takes g.R.Read.remaining _ _ _ _ _ _ _ _ went, c.in-Ok.ensures.faults ∙ inv.faults) })
+    let went = Went-more g.S.Sink.takes g.R.Read.remaining 1 c.args.sink.now c.loop-read.sink c.take_piece.new.sink c.args.reader.now c.loop-read.reader c.read.new.self c.args.writer.now c.loop-read.writer c.take_piece.new.writer
+    c.loop-read.cutter c.take_piece.new.cutter (take c.in-Ok.count c.read.new.buf) (Err c.in_err-take_piece.field-0.0) inv.went (omega (arith, c.in-Ok.ensures.reads)) c.in-Ok.ensures.bytes.0 c.in_err-take_piece.ensures.takes tt in
+    rw (p.1, p.2) (record { bytes = went.bytes; read = (went.read, went.few); ends = inr (went_lines g.S.Sink.takes g.R.Read.remaining _ _ _ _ _ _ _ _ _ went, record { faults = c.in-Ok.ensures.faults ∙ inv.faults; failing = λ _. c.in-Ok.ensures.failing }) })
 
 pub returns-in_default-clause-runs : goal.returns-in_default-clause-runs
 returns-in_default-clause-runs g c =
     let inv = c.loop-read.invariant in
     record {
       bytes = inv.went.bytes;
-      read = Consumes-kept _ _ _ inv.went.bytes inv.went.read c.in_default.ensures.bytes;
-      ends = inl (went_lines g.S.Sink.takes g.R.Read.remaining _ _ _ _ _ _ _ _ inv.went, refl, inl (omega (arith, c.in_default.ensures.faults, inv.faults, c.requires.reader.1), c.in_default.ensures.failing));
+      read = (Consumes-kept _ _ _ inv.went.bytes inv.went.read c.in_default.ensures.bytes, let few = inv.went.few in omega (arith, few, c.in_default.ensures.reads));
+      ends = inl (went_lines g.S.Sink.takes g.R.Read.remaining _ _ _ _ _ _ _ _ _ inv.went, refl, inl (omega (arith, c.in_default.ensures.faults, inv.faults, c.requires.reader.1), c.in_default.ensures.failing));
     }
 
 pub returns-then-count-eq0-clause-runs : goal.returns-then-count-eq0-clause-runs
 returns-then-count-eq0-clause-runs g c =
     let inv = c.loop-read.invariant in
     let piece = take c.in-Ok.count c.read.new.buf in
-    let went = Went-more g.S.Sink.takes g.R.Read.remaining c.args.sink.now c.loop-read.sink c.take_piece.new.sink c.args.reader.now c.loop-read.reader c.read.new.self c.args.writer.now c.loop-read.writer c.take_piece.new.writer
-    c.loop-read.cutter c.take_piece.new.cutter piece (Ok tt) inv.went c.in-Ok.ensures.bytes.0 c.in_ok-take_piece.ensures.takes c.in_ok-take_piece.ensures.cutter in
+    let went = Went-more g.S.Sink.takes g.R.Read.remaining 1 c.args.sink.now c.loop-read.sink c.take_piece.new.sink c.args.reader.now c.loop-read.reader c.read.new.self c.args.writer.now c.loop-read.writer c.take_piece.new.writer
+    c.loop-read.cutter c.take_piece.new.cutter piece (Ok tt) inv.went (omega (arith, c.in-Ok.ensures.reads)) c.in-Ok.ensures.bytes.0 c.in_ok-take_piece.ensures.takes c.in_ok-take_piece.ensures.cutter in
     record {
       bytes = went.bytes;
-      read = went.read;
+      read = (went.read, went.few);
       ends = (
-        went_lines g.S.Sink.takes g.R.Read.remaining _ _ _ _ _ _ _ _ went,
+        went_lines g.S.Sink.takes g.R.Read.remaining _ _ _ _ _ _ _ _ _ went,
         c.rest.ensures ∙ ap rest_in went.kept ∙ new_rest_in went.bytes,
         c.in-Ok.ensures.bytes.1 c.if-count-eq0.true (omega (arith, c.requires.room)),
         c.in-Ok.ensures.faults ∙ inv.faults,
@@ -66,6 +67,6 @@ returns-clause-runs g c =
     let inv = c.loop-read.invariant in
     record {
       bytes = inv.went.bytes;
-      read = inv.went.read;
-      ends = inl (went_lines g.S.Sink.takes g.R.Read.remaining _ _ _ _ _ _ _ _ inv.went, refl, inr (omega (arith, inv.reads), inv.faults));
+      read = (inv.went.read, let few = inv.went.few in omega (arith, few));
+      ends = inl (went_lines g.S.Sink.takes g.R.Read.remaining _ _ _ _ _ _ _ _ _ inv.went, refl, inr (omega (arith, inv.reads), inv.faults));
     }
