@@ -455,27 +455,43 @@ fn each_is_held(rt: &impl Abort, alloc: Global, all: &[u8]) {
     }
 }
 
-/// Changes with the greatest number of blocks, one for each length; and the number of lines of the output.
-const LONGEST: [(&str, usize); 2] = [
+/// Changes with the greatest number of blocks, one for each length; the number of lines of the output, and of its `unset` lines.
+const LONGEST: [(&str, usize, usize); 2] = [
     (
         "add 0.0.0.0/0 1\nadd 255.255.255.255/32 2\ndel 0.0.0.0/0 1\n",
         37,
+        32,
     ),
     (
         "add ::/0 1\nadd ffff:ffff:ffff:ffff:ffff:ffff:ffff:ffff/128 2\ndel ::/0 1\n",
         133,
+        128,
     ),
 ];
 
 #[test]
 fn longest(rt: HostRuntime) {
-    for (input, lines) in &LONGEST {
-        has_lines(&rt, rt.alloc(), input, *lines);
+    for (input, lines, unset) in &LONGEST {
+        has_lines(&rt, rt.alloc(), input, *lines, *unset);
     }
 }
 
-/// Checks the number of lines of the output.
-fn has_lines(rt: &impl Abort, alloc: Global, input: &str, lines: usize) {
+/// Checks the number of lines of the output, and of its `unset` lines, which alone begin with this letter.
+fn has_lines(rt: &impl Abort, alloc: Global, input: &str, lines: usize, unset: usize) {
     let out = led(alloc, input.as_bytes()).expect(rt, input);
     row_is(rt, input, line_count(out.as_slice()), lines);
+    row_is(rt, input, lines_with(out.as_slice(), b'u'), unset);
+}
+
+/// The number of lines that begin with this byte.
+fn lines_with(bytes: &[u8], first: u8) -> usize {
+    let mut count = 0usize;
+    let mut before = b'\n';
+    for byte in bytes {
+        if before == b'\n' && *byte == first {
+            count = count.wrapping_add(1);
+        }
+        before = *byte;
+    }
+    count
 }
