@@ -1,5 +1,5 @@
 -- The values and the children of a shape.
-use Rattle.std.specs.Prelude.{List, [], ◌∷◌, ◌<◌}
+use Rattle.std.specs.Prelude.{ℕ, List, [], ◌∷◌, ◌+◌, ◌<◌, ◌≤◌}
 use Rattle.short_vec.specs.Lists.{short_items, short_len, short_capacity}
 use Rattle.shape.specs.declared.lent.Items.{Items}
 use Rattle.shape.specs.declared.lent.Items.TheVariants as lent
@@ -27,6 +27,13 @@ HasRoom (One v alloc) = ⊥
 HasRoom (Values vs) = ⊥
 HasRoom (Children cs) = short_len cs < short_capacity cs
 HasRoom (Both cs vs) = short_len cs < short_capacity cs
+
+-- there is room for n more children
+abbrev pub HasRoomFor : {X Y : Type 0} → ℕ → Shape X Y → Type 0
+HasRoomFor n (One v alloc) = ⊥
+HasRoomFor n (Values vs) = ⊥
+HasRoomFor n (Children cs) = short_len cs + n ≤ short_capacity cs
+HasRoomFor n (Both cs vs) = short_len cs + n ≤ short_capacity cs
 
 -- the values that are lent
 abbrev pub items_of : {X : Type 0} → Items X → List X

@@ -42,6 +42,7 @@ pub(crate) fn reserve<X>(
     requires { 0 < more }
     ensures items { short_items items.new ≡ short_items items.old }
     ensures ok { OnOk result (short_len items.new < short_capacity items.new) }
+    ensures more { OnOk result (short_capacity items.old ≤ short_len items.old → short_len items.new + max more (short_len items.old / 4) ≤ short_capacity items.new) }
     ensures memory { OnOk result (short_capacity items.old ≤ short_len items.old → short_capacity items.new * size ≤ block_size ((short_len items.old + max more (short_len items.old / 4)) * size)) }
     ensures succeeds { short_len items.old < short_capacity items.old → IsOk result }
 {

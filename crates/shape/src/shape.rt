@@ -1,8 +1,8 @@
 //! The values and the children of a node, in as few lists as they need.
-ghost use Rattle.std.specs.Prelude.{◌≡◌, ◌<◌, ◌≤◌, ◌+◌, ⊤, [], ◌∷◌, length, insert, remove, slice_index_or, is_ok, if◌then◌else◌, IfOk, IfErr, OnErr, OnOk, IsOk};
+ghost use Rattle.std.specs.Prelude.{◌≡◌, ◌<◌, ◌≤◌, ◌+◌, ◌⊎◌, ⊤, [], ◌∷◌, length, insert, remove, slice_index_or, is_ok, if◌then◌else◌, IfOk, IfErr, OnErr, OnOk, IsOk};
 ghost use Rattle.std.specs.Borrow.{sem};
 ghost use Rattle.short_vec.specs.Lists.{short_items, short_len, short_capacity};
-ghost use Rattle.shape.specs.Shapes.{shape_values, shape_children, items_of, HasRoom};
+ghost use Rattle.shape.specs.Shapes.{shape_values, shape_children, items_of, HasRoom, HasRoomFor};
 ghost use Rattle.shape.specs.Lends.{follows_value, follows_child};
 
 use crate::growth::{LARGE, empty_list, insert_in, reserve};
@@ -187,6 +187,7 @@ impl<C: Drop, T: Drop> Shape<C, T> {
         ensures values { shape_values self.new ≡ shape_values self.old }
         ensures children { shape_children self.new ≡ shape_children self.old }
         ensures ok { OnOk result (HasRoom self.new) }
+        ensures more { OnOk result (HasRoom self.old ⊎ HasRoomFor more self.new) }
         ensures succeeds { HasRoom self.old → IsOk result }
     {
         match self {
@@ -201,6 +202,7 @@ impl<C: Drop, T: Drop> Shape<C, T> {
         ensures values { shape_values result.0 ≡ shape_values self }
         ensures children { shape_children result.0 ≡ shape_children self }
         ensures ok { OnOk result.1 (HasRoom result.0) }
+        ensures more { OnOk result.1 (HasRoom self ⊎ HasRoomFor more result.0) }
     {
         match self {
             Shape::One(value, alloc) => match with_list(alloc, value, more) {
@@ -411,7 +413,7 @@ fn with_list<C: Drop, T: Drop>(
     more: usize,
 ) -> Result<(ShortVec<C>, Box<ShortVec<T>>), T>
     requires { 0 < more }
-    ensures children { IfOk result (λ r. (short_items r.0 ≡ []) × (short_len r.0 < short_capacity r.0)) }
+    ensures children { IfOk result (λ r. (short_items r.0 ≡ []) × (short_len r.0 + more ≤ short_capacity r.0)) }
     ensures values { IfOk result (λ r. short_items r.1.value ≡ value ∷ []) }
     ensures err { IfErr result (λ v. v ≡ value) }
 {
@@ -433,6 +435,7 @@ fn with_children<C: Drop, T: Drop>(
     ensures values { shape_values result.0 ≡ short_items values }
     ensures children { shape_children result.0 ≡ [] }
     ensures ok { OnOk result.1 (HasRoom result.0) }
+    ensures more { OnOk result.1 (HasRoomFor more result.0) }
 {
     let alloc = values.allocator();
     let Ok(children) = empty_list(alloc, more, LARGE) else {

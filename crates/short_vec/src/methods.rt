@@ -1,5 +1,5 @@
 //! The calls that change a `ShortVec`; each does what the call of `Vec` does.
-ghost use Rattle.std.specs.Prelude.{◌≡◌, ◌+◌, ◌<◌, ◌≤◌, ◌^◌, [], ◌∷◌, ◌++◌, is_ok, max, if◌then◌else◌, IfOk, IfErr, IsOk, IsTrue, OnOk, OnErr, insert, remove, slice_index_or};
+ghost use Rattle.std.specs.Prelude.{◌≡◌, ◌+◌, ◌<◌, ◌≤◌, ◌^◌, [], ◌∷◌, ◌++◌, is_ok, false, max, if◌then◌else◌, IfOk, IfErr, IsOk, IsTrue, OnOk, OnErr, insert, remove, slice_index_or};
 ghost use Rattle.std_alloc.specs.Vec.{vec_len, vec_capacity};
 ghost use Rattle.short_vec.specs.Lists.{short_len, short_capacity};
 
@@ -98,11 +98,12 @@ impl<T> ShortVec<T> {
         ensures len { short_len self.new ≡ (if is_ok result then short_len self.old + 1 else short_len self.old) }
         ensures value_returned { IfErr result (λ failed. failed.value ≡ element) }
 
-        // If there is room, it succeeds and the capacity is unchanged. Only a full list can fail.
+        // If there is room, it succeeds and the capacity is unchanged. Only a full list can fail, and then its capacity is unchanged.
         ensures capacity { short_capacity self.old ≤ short_capacity self.new }
         ensures succeeds { short_len self.old < short_capacity self.old → IsOk result }
         ensures had_room { short_len self.old < short_capacity self.old → short_capacity self.new ≡ short_capacity self.old }
         ensures full { OnErr result (short_capacity self.old ≤ short_len self.old) }
+        ensures err { OnErr result (short_capacity self.new ≡ short_capacity self.old) }
     {
         replace_with(self, (index, element), ShortVec::inserted)
     }
@@ -116,6 +117,7 @@ impl<T> ShortVec<T> {
         ensures succeeds { short_len self < short_capacity self → IsOk result.1 }
         ensures had_room { short_len self < short_capacity self → short_capacity result.0 ≡ short_capacity self }
         ensures full { OnErr result.1 (short_capacity self ≤ short_len self) }
+        ensures err { OnErr result.1 (short_capacity result.0 ≡ short_capacity self) }
     {
         let (index, element) = place;
         let mut list = self.into_vec();
@@ -139,11 +141,12 @@ impl<T> ShortVec<T> {
         ensures len { short_len self.new ≡ (if is_ok result then short_len self.old + 1 else short_len self.old) }
         ensures value_returned { IfErr result (λ failed. failed.value ≡ element) }
 
-        // If there is room, it succeeds and the capacity is unchanged. Only a full list can fail.
+        // If there is room, it succeeds and the capacity is unchanged. Only a full list can fail, and then its capacity is unchanged.
         ensures capacity { short_capacity self.old ≤ short_capacity self.new }
         ensures succeeds { short_len self.old < short_capacity self.old → IsOk result }
         ensures had_room { short_len self.old < short_capacity self.old → short_capacity self.new ≡ short_capacity self.old }
         ensures full { OnErr result (short_capacity self.old ≤ short_len self.old) }
+        ensures err { OnErr result (short_capacity self.new ≡ short_capacity self.old) }
     {
         replace_with(self, element, ShortVec::pushed)
     }
@@ -156,6 +159,7 @@ impl<T> ShortVec<T> {
         ensures succeeds { short_len self < short_capacity self → IsOk result.1 }
         ensures had_room { short_len self < short_capacity self → short_capacity result.0 ≡ short_capacity self }
         ensures full { OnErr result.1 (short_capacity self ≤ short_len self) }
+        ensures err { OnErr result.1 (short_capacity result.0 ≡ short_capacity self) }
     {
         let mut list = self.into_vec();
         if list.len() == list.capacity() && !make_room(&mut list) {
@@ -198,6 +202,7 @@ fn make_room<T>(list: &mut Vec<T>) -> bool
     ensures items { list.new.items ≡ list.old.items }
     ensures len { vec_len list.new ≡ vec_len list.old }
     ensures room { IsTrue result → vec_len list.new < vec_capacity list.new }
+    ensures refused { result ≡ false → vec_capacity list.new ≡ vec_capacity list.old }
     ensures capacity { vec_capacity list.old ≤ vec_capacity list.new }
     ensures few { vec_capacity list.new < 2 ^ 32 }
 {

@@ -25,7 +25,7 @@ impl<T> Model for ShortVec<T> {
     ghost also_shares = { λ v _ κ. vec_shares T.row v.ptr v.len v.cap v.items κ };
 }
 
-/// Drops the items from the first to the last, and frees the memory.
+/// Drops the items, and frees the memory.
 impl<T: Drop> Drop for ShortVec<T> {
     fn drop(self) {
         let _list = self.into_vec();

@@ -2,7 +2,7 @@
 use Rattle.std.proofs.Common.{◌≡◌, ℕ, zero, suc, ◌+◌, ◌-◌, ◌/◌, ◌%◌, ◌^◌, leb, subst, ◌<◌, ◌≤◌, Bool, true, false, cond, not, ◌&&◌, List, [], ◌∷◌, length, take, get_or, refl, sym, ap, ◌∙◌, T, eqb, nat_lt, count_ones, is_lt, length-take, take-take, arith}
 use Rattle.std.specs.Int.{bit_at}
 use Rattle.std.proofs.lemmas.Bool.Decides.{nat_tests}
-use Rattle.std.proofs.lemmas.Bool.{eqb-true, and_right}
+use Rattle.std.proofs.lemmas.Bool.{eqb-true, ltb-true, and_right}
 use Rattle.ipnet_addr.proofs.Basics.{T-true, T-parts}
 use Rattle.trie_core.specs.Bits.{number_from, is_from}
 use Rattle.ipnet_blocks.specs.BitStrings.{bits_cmp, begins}
@@ -35,6 +35,19 @@ each_holds (suc k) t h (false ∷ bs) l = each_holds k (λ bs. t (false ∷ bs))
 
 abbrev pub masks : List ℕ
 masks = 31 ∷ 31 ∷ 47 ∷ 47 ∷ 199 ∷ 199 ∷ 327 ∷ 327 ∷ 3587 ∷ 3587 ∷ 5635 ∷ 5635 ∷ 25091 ∷ 25091 ∷ 41475 ∷ 41475 ∷ 983041 ∷ 983041 ∷ 1507329 ∷ 1507329 ∷ 6488065 ∷ 6488065 ∷ 10682369 ∷ 10682369 ∷ 117506049 ∷ 117506049 ∷ 184614913 ∷ 184614913 ∷ 822149121 ∷ 822149121 ∷ 1359020033 ∷ 1359020033 ∷ []
+
+-- no list item is past the last place
+abbrev below_all : List ℕ → Bool
+below_all [] = true
+below_all (m ∷ ms) = nat_lt m (2 ^ 31) && below_all ms
+
+below_at : (ms : List ℕ) (n : ℕ) → T (below_all ms) → get_or ms n 0 < 2 ^ 31
+below_at [] n h = omega arith
+below_at (m ∷ ms) zero h = ltb-true _ _ (T-true _ (T-parts (nat_lt m (2 ^ 31)) (below_all ms) h).0)
+below_at (m ∷ ms) (suc n) h = below_at ms n (T-parts (nat_lt m (2 ^ 31)) (below_all ms) h).1
+
+pub masks_below : (n : ℕ) → get_or masks n 0 < 2 ^ 31
+masks_below n = below_at masks n tt
 
 abbrev lengths : List ℕ
 lengths = 0 ∷ 1 ∷ 2 ∷ 3 ∷ 4 ∷ 4 ∷ 3 ∷ 4 ∷ 4 ∷ 2 ∷ 3 ∷ 4 ∷ 4 ∷ 3 ∷ 4 ∷ 4 ∷ 1 ∷ 2 ∷ 3 ∷ 4 ∷ 4 ∷ 3 ∷ 4 ∷ 4 ∷ 2 ∷ 3 ∷ 4 ∷ 4 ∷ 3 ∷ 4 ∷ 4 ∷ []

@@ -137,7 +137,8 @@ impl Path {
     /// Returns the places of the prefixes of fewer than five bits.
     #[inline]
     pub fn beginnings(&self) -> u32
-        ensures { IsBeginMask self.now result }
+        ensures mask { IsBeginMask self.now result }
+        ensures below { result < 2 ^ 31 }
     {
         let all = beginnings(self.five());
         if self.is_short() {

@@ -29,6 +29,7 @@ pub(crate) fn beginnings(five: u8) -> u32
     requires { five < 32 }
     ensures long { (q : List Bool) → 5 ≤ length q → child_of q ≡ five → IsBeginMask q result }
     ensures short { (q : List Bool) → length q < 5 → child_of q ≡ five → IsBeginMask q (result % 2 ^ (place_of q + 1)) }
+    ensures below { result < 2 ^ 31 }
 {
     BEGINNINGS[five as usize]
 }

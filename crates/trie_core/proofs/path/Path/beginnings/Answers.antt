@@ -1,6 +1,6 @@
 use Rattle.std.proofs.Common.{◌≡◌, ◌<◌, ◌≤◌, ◌+◌, ◌*◌, ◌%◌, ◌^◌, ap, sym, subst, length, arith, ℕ, suc}
 use Rattle.std.proofs.Math.Facts.{Fits-of_lt}
-use Rattle.std.proofs.Math.Nat.{pow-le-pow_right}
+use Rattle.std.proofs.Math.Nat.{pow-le-pow_right, mod-le}
 use Rattle.std.proofs.lemmas.Bool.Decides.{nat_tests}
 use Rattle.trie_core.specs.InnerPlaces.{place_of, IsBeginMask}
 use Rattle.trie_core.proofs.path.Path.beginnings.Goals as goal
@@ -9,13 +9,16 @@ use Rattle.trie_core.proofs.path.Path.beginnings.Goals as goal
 doubled : (b n m : ℕ) → b ≡ 2 ^ n → n ≡ m → 2 * b ≡ 2 ^ (m + 1)
 doubled b n m e f = let z : m + 1 ≡ suc m = omega arith in omega (arith, e, ap (λ i. 2 ^ i) f, ap (λ i. 2 ^ i) z)
 
-pub returns-then-is_short : goal.returns-then-is_short
-returns-then-is_short c =
+pub returns-then-is_short-clause-mask : goal.returns-then-is_short-clause-mask
+returns-then-is_short-clause-mask c =
     let h : length c.args.self.now < 5 = grind (arith, nat_tests) in
     subst (λ n. IsBeginMask c.args.self.now (c.beginnings-all.result % n)) (sym (doubled c.bit.result c.place.result (place_of c.args.self.now) c.bit.ensures c.place.ensures.value)) (c.beginnings-all.ensures.short c.args.self.now h (sym c.five.ensures.value))
 
-pub returns : goal.returns
-returns c =
+pub returns-then-is_short-clause-below : goal.returns-then-is_short-clause-below
+returns-then-is_short-clause-below c = omega (arith, c.beginnings-all.ensures.below, mod-le c.beginnings-all.result (2 * c.bit.result))
+
+pub returns-clause-mask : goal.returns-clause-mask
+returns-clause-mask c =
     let h : 5 ≤ length c.args.self.now = grind (arith, nat_tests) in
     c.beginnings-all.ensures.long c.args.self.now h (sym c.five.ensures.value)
 
