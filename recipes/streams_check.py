@@ -855,12 +855,22 @@ def rtnetlink_rounds(chain):
            *(f"route replace {network} nhid 3" for network in networks)])
     several = "nexthop via 192.0.2.8 dev lan nexthop via 192.0.2.9 dev lan"
     chain.comes_to("a group of nexthop objects", {network: {several: 65535} for network in networks})
+    objects_alone(chain, batch, networks)
     batch(["nexthop replace id 3 group 2"])
     chain.comes_to("another group", {network: {"via 192.0.2.9 dev lan": 65535} for network in networks})
     batch([*(f"route replace {network} via 192.0.2.7" for network in networks), "route add 10.99.0.0/16 dev lan"])
     settled_to(chain, "routes by their gateways again")
     dead_gateway(chain, batch)
     rtnetlink_ends(chain, ip, batch, networks)
+
+
+def objects_alone(chain, batch, networks):
+    """The kernel sends no gateways of objects any more."""
+    for mode, words in ((0, "nhid 3"), (1, "nexthop via 192.0.2.8 dev lan nexthop via 192.0.2.9 dev lan")):
+        tool("ip", "netns", "exec", chain.own, "sysctl", "-qw", f"net.ipv4.nexthop_compat_mode={mode}")
+        batch(f"route replace {network} nhid 3" for network in networks)
+        chain.comes_to(f"routes over an object in compat mode {mode}", {network: {words: 65535} for network in networks})
+        settled_to(chain, "the same, by `ip`")
 
 
 def dead_gateway(chain, batch):
