@@ -19,6 +19,11 @@ MoreByIsMin = (times n : ℕ) → n ≤ 2 ^ 64 - 1 → more_by times n ≡ min (
 abbrev pub more_if : Bool → ℕ → ℕ
 more_if fault n = if fault then one_more n else n
 
+-- a `read` returned no bytes and no error
+abbrev pub read_none : {E : Type 0} → Result ℕ E → Bool
+read_none (Ok n) = n == 0
+read_none (Err e) = false
+
 -- a `write` of a piece of this length failed, or wrote none of a nonempty one
 abbrev pub took_none : {E : Type 0} → Result ℕ E → ℕ → Bool
 took_none (Ok n) length = (n == 0) && nat_lt 0 length
