@@ -32,4 +32,4 @@ module _ {W : Type 0} where
       let from_none = ap (more_by (length (lines_in r.bytes))) none in
       let sum = sums (length (lines_in r.bytes)) 0 (omega arith) in
       let same = length_lines (lines r.bytes) in
-      (record { bytes = r.bytes; read = r.read; holds = omega (arith, counted, from_none, sum, same) }, r.ends.2, r.ends.3, r.ends.4)
+      (record { bytes = r.bytes; read = r.read; holds = omega (arith, counted, from_none, sum, same) }, r.ends.2)

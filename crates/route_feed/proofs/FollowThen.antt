@@ -118,8 +118,8 @@ module _ {R W : Type 0} (remaining : R → Option (List ℕ)) (from to : Counted
       (λ p. absurd (let e = p.1 in cc))
       (λ p.
       let w = wanted new_state b (lines x.bytes) old new (subst (λ s. TakesAll Takes s (lines_in x.bytes) old (Err Why.Memory) b new) new_follower p.0) in (
-        (
-          inr (record { bytes = x.bytes; read = x.read; holds = record { before = w.before; piece = w.piece; after = w.after; reply = w.reply; split = w.split; replies = w.replies; is_reply = w.is_reply; wants = w.wants } }),
+        inr (
+          record { bytes = x.bytes; read = x.read; holds = record { before = w.before; piece = w.piece; after = w.after; reply = w.reply; split = w.split; replies = w.replies; is_reply = w.is_reply; wants = w.wants } },
           p.1,
         ),
         unwritten a b (lines_in x.bytes) old new (Err Why.Memory) p.0,
@@ -144,7 +144,7 @@ module _ {R W : Type 0} (remaining : R → Option (List ℕ)) (from to : Counted
   pub reached : (left : Rest) → Runs Takes remaining a from old (Ok left) b to new → Reached remaining from to b × (new ≡ old)
   reached left x =
       let steps = subst (λ s. Followed s (lines_in x.bytes) b) new_follower (followed_all a b (lines_in x.bytes) old new x.ends.0) in (
-        record { bytes = x.bytes; read = x.read; replies = are_replies (lines x.bytes) steps.replies; hops = hops_are x.bytes b steps; at_end = x.ends.2; faults = x.ends.3; fails = x.ends.4 },
+        record { bytes = x.bytes; read = x.read; replies = are_replies (lines x.bytes) steps.replies; hops = hops_are x.bytes b steps; met = x.ends.2 },
         unwritten a b (lines_in x.bytes) old new (Ok tt) x.ends.0,
       )
 
@@ -152,10 +152,10 @@ module _ {R W : Type 0} (remaining : R → Option (List ℕ)) (from to : Counted
 
 module _ {R W : Type 0} (remaining : R → Option (List ℕ)) (contents : W → Option (List ℕ)) (from to : Counted R) (old : Counted W) where
   pub follow_stopped : (e : RunError) (new : Counted W) → Stops remaining from to e × (new ≡ old) → FollowEnds remaining contents from to old new (Err e)
-  follow_stopped Why.Memory new x = (x.0.0, x.0.1, x.1)
+  follow_stopped Why.Memory new x = x
   follow_stopped Why.Read new x = (x.0.0, x.0.1, x.1)
   follow_stopped Why.Write new x = absurd x.0
-  follow_stopped Why.Line new x = (x.0.0, x.0.1, x.1)
+  follow_stopped Why.Line new x = x
 
   -- all was read, and the list written
   pub follow_ended : (b : State) (mid new : Counted W) (ps : List Piece) (r : Result Unit RunError) → Reached remaining from to b × (mid ≡ old)
@@ -167,13 +167,13 @@ module _ {R W : Type 0} (remaining : R → Option (List ℕ)) (contents : W → 
       end = x.0
 
       go : (k : Result Unit RunError) → Closes contents 1 old new k (followed end.bytes) → FollowEnds remaining contents from to old new k
-      go (Ok done) q = (record { bytes = end.bytes; read = end.read; holds = (end.replies, q) }, end.at_end, end.faults, end.fails)
+      go (Ok done) q = (record { bytes = end.bytes; read = end.read; holds = (end.replies, q) }, end.met)
       go (Err e) q =
           subst (λ k. FollowEnds remaining contents from to old new (Err k)) (sym q.0)
-          (record { bytes = end.bytes; read = end.read; holds = (end.replies, q.1) }, end.at_end, end.faults, end.fails)
+          (record { bytes = end.bytes; read = end.read; holds = (end.replies, q.1) }, end.met)
 
 -- where the reader tells its bytes
 pub follow_known : {R W : Type 0} (remaining : R → Option (List ℕ)) (contents : W → Option (List ℕ)) (from to : Counted R) (old new : Counted W) (r : Result Unit RunError) → FollowEnds remaining contents from to old new r
     → OnOk r (IfSome (remaining from.device) (λ bytes. AreReplies (lines bytes) × Appends (contents old.device) (contents new.device) (followed bytes)))
-follow_known remaining contents from to old new (Ok done) x = Consumes-whole (remaining from.device) (remaining to.device) x.0.bytes _ x.0.read.0 x.1 (x.0.holds.0, x.0.holds.1.appended)
+follow_known remaining contents from to old new (Ok done) x = Consumes-whole (remaining from.device) (remaining to.device) x.0.bytes _ x.0.read.0 x.1.at_end (x.0.holds.0, x.0.holds.1.appended)
 follow_known remaining contents from to old new (Err e) x = tt

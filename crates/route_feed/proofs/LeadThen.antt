@@ -228,15 +228,13 @@ module _ {R W : Type 0} (remaining : R → Option (List ℕ)) (contents : W → 
                 holds = (replied.0, subst (λ n. Closed contents n old new (output x.bytes replied.0)) (sym (all_answered x.bytes replied.0)) (subst (Closed contents _ old new) (sym (output_is x.bytes replied.0)) all));
               },
               x.ends.2,
-              x.ends.3,
-              x.ends.4,
             )
         go (Err e) q h =
             subst (λ k. LeadEnds remaining contents from to old new (Err k)) (sym q.0)
-            (inr (record { bytes = x.bytes; read = x.read; holds = (replied.0, stopped_at_end contents x.bytes replied.0 old mid new (sym x.ends.1 ∙ h refl) replied.1 q.1) }, x.ends.2, x.ends.3, x.ends.4))
+            (inr (record { bytes = x.bytes; read = x.read; holds = (replied.0, stopped_at_end contents x.bytes replied.0 old mid new (sym x.ends.1 ∙ h refl) replied.1 q.1) }, x.ends.2))
 
 -- where the reader tells its bytes
 pub lead_known : {R W : Type 0} (remaining : R → Option (List ℕ)) (contents : W → Option (List ℕ)) (from to : Counted R) (old new : Counted W) (r : Result Unit RunError) → LeadEnds remaining contents from to old new r
     → OnOk r (IfSome (remaining from.device) (λ bytes. (refusals : List Bool) × Appends (contents old.device) (contents new.device) (output bytes refusals)))
-lead_known remaining contents from to old new (Ok done) x = Consumes-whole (remaining from.device) (remaining to.device) x.0.bytes _ x.0.read.0 x.1 (x.0.holds.0, x.0.holds.1.appended)
+lead_known remaining contents from to old new (Ok done) x = Consumes-whole (remaining from.device) (remaining to.device) x.0.bytes _ x.0.read.0 x.1.at_end (x.0.holds.0, x.0.holds.1.appended)
 lead_known remaining contents from to old new (Err e) x = tt

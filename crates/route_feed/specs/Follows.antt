@@ -9,8 +9,8 @@ use Rattle.route_laws.specs.Flats.{flat_of}
 use Rattle.route_program.specs.declared.counted.Counted.{Counted}
 use Rattle.route_program.specs.declared.error.RunError.{RunError}
 use Rattle.route_program.specs.declared.error.RunError.TheVariants as Why
-use Rattle.route_program.specs.Devices.{Closed, HasRead, HasReadAll, Torn}
-use Rattle.route_program.specs.Counted.{ReadFault, ReadWell}
+use Rattle.route_program.specs.Devices.{Closed, HasRead, HasReadAll, HasReadSoFar, Torn}
+use Rattle.route_program.specs.Counted.{ReadFault}
 use Rattle.route_feed.specs.Replies.{printed}
 use Rattle.route_feed.specs.Steps.{flat_line}
 use Rattle.route_feed.specs.Streams.{committed, painted_hop, pending_over, replies_in, WantsMemory}
@@ -34,9 +34,9 @@ pub record MeetsWant (pieces : List (List ℕ)) : Type 0 where
 abbrev pub followed : List ℕ → List ℕ
 followed bytes = printed (map flat_line (flat_of (painted_hop (committed (replies_in bytes)))) ++ Close Done ∷ [])
 
--- the reader returned some bytes, and one of their lines isn't a reply line
+-- the reader returned some bytes, one of their lines isn't a reply line, and no read failed or met the end
 abbrev pub MeetsAnother : {R : Type 0} → (R → Option (List ℕ)) → Counted R → Counted R → Type 0
-MeetsAnother remaining from to = HasRead remaining (λ bytes. ¬ AreReplies (lines bytes)) from to
+MeetsAnother remaining from to = HasReadSoFar remaining (λ bytes. ¬ AreReplies (lines bytes)) from to
 
 module _ {R W : Type 0} (remaining : R → Option (List ℕ)) (contents : W → Option (List ℕ)) where
   -- `Ok`: all was read, each line is a reply line, the flat list was written and flushed, and nothing failed. `Read`: each line so far is
@@ -45,6 +45,6 @@ module _ {R W : Type 0} (remaining : R → Option (List ℕ)) (contents : W → 
   abbrev pub FollowEnds : Counted R → Counted R → Counted W → Counted W → Result Unit RunError → Type 0
   FollowEnds from to old new (Ok done) = HasReadAll remaining (λ bytes. AreReplies (lines bytes) × Closed contents 1 old new (followed bytes)) from to
   FollowEnds from to old new (Err Why.Read) = HasRead remaining (λ bytes. AreReplies (lines bytes)) from to × ReadFault from to × (new ≡ old)
-  FollowEnds from to old new (Err Why.Line) = MeetsAnother remaining from to × ReadWell from to × (new ≡ old)
+  FollowEnds from to old new (Err Why.Line) = MeetsAnother remaining from to × (new ≡ old)
   FollowEnds from to old new (Err Why.Write) = HasReadAll remaining (λ bytes. AreReplies (lines bytes) × Torn contents old new (followed bytes)) from to
-  FollowEnds from to old new (Err Why.Memory) = ((to ≡ from) ⊎ HasRead remaining (λ bytes. MeetsWant (lines bytes)) from to) × ReadWell from to × (new ≡ old)
+  FollowEnds from to old new (Err Why.Memory) = ((to ≡ from) ⊎ HasReadSoFar remaining (λ bytes. MeetsWant (lines bytes)) from to) × (new ≡ old)

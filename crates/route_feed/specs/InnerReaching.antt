@@ -1,6 +1,5 @@
 -- A follower that reads an input to its end.
-use Rattle.std.specs.Prelude.{◌≡◌, ℕ, List, ◌⊎◌, Option, Result, Ok, Err, false}
-use Rattle.std.specs.Io.KnownBytes.{IsAtEnd}
+use Rattle.std.specs.Prelude.{◌≡◌, ℕ, List, ◌⊎◌, Option, Result, Ok, Err}
 use Rattle.ipnet_addr.specs.Addresses.{Address, IsAddress}
 use Rattle.route_lines.specs.Bytes.{lines}
 use Rattle.route_laws.specs.Networks.{routes_of}
@@ -8,9 +7,9 @@ use Rattle.route_laws.specs.Tables.{hop_at}
 use Rattle.route_program.specs.declared.counted.Counted.{Counted}
 use Rattle.route_program.specs.declared.error.RunError.{RunError}
 use Rattle.route_program.specs.declared.error.RunError.TheVariants as Why
-use Rattle.route_program.specs.Counted.{ReadFault, ReadWell}
+use Rattle.route_program.specs.Counted.{ReadFault}
 use Rattle.route_feed.specs.Following.{State}
-use Rattle.route_program.specs.Devices.{HasRead, HasReturned}
+use Rattle.route_program.specs.Devices.{HasRead, HasReadSoFar, HasReturned, MetEnd}
 use Rattle.route_feed.specs.Follows.{AreReplies, MeetsAnother, MeetsWant}
 use Rattle.route_feed.specs.Streams.{committed, painted_hop, replies_in}
 
@@ -21,16 +20,14 @@ module _ {R : Type 0} (remaining : R → Option (List ℕ)) where
     pub read : HasReturned remaining from to bytes
     pub replies : AreReplies (lines bytes)
     pub hops : (x : Address) → IsAddress x → hop_at (routes_of follower.table) x ≡ painted_hop (committed (replies_in bytes)) x
-    pub at_end : IsAtEnd (remaining to.device)
-    pub faults : to.faults ≡ from.faults
-    pub fails : to.failing ≡ false
+    pub met : MetEnd remaining from to
 
   -- the reason why the end was not reached
   abbrev pub Stops : Counted R → Counted R → RunError → Type 0
   Stops from to Why.Read = HasRead remaining (λ bytes. AreReplies (lines bytes)) from to × ReadFault from to
-  Stops from to Why.Line = MeetsAnother remaining from to × ReadWell from to
+  Stops from to Why.Line = MeetsAnother remaining from to
   Stops from to Why.Write = ⊥
-  Stops from to Why.Memory = ((to ≡ from) ⊎ HasRead remaining (λ bytes. MeetsWant (lines bytes)) from to) × ReadWell from to
+  Stops from to Why.Memory = (to ≡ from) ⊎ HasReadSoFar remaining (λ bytes. MeetsWant (lines bytes)) from to
 
   -- the end was reached or not, and nothing was written
   abbrev pub Reaches : {W : Type 0} → Counted R → Counted R → Counted W → Counted W → Result State RunError → Type 0

@@ -7,8 +7,8 @@ use Rattle.route_laws.specs.Networks.{Stored}
 use Rattle.route_program.specs.declared.counted.Counted.{Counted}
 use Rattle.route_program.specs.declared.error.RunError.{RunError}
 use Rattle.route_program.specs.declared.error.RunError.TheVariants as Why
-use Rattle.route_program.specs.Devices.{Closed, HasRead, HasReadAll}
-use Rattle.route_program.specs.Counted.{more_by, FailedLast, ReadFault, ReadWell}
+use Rattle.route_program.specs.Devices.{Closed, HasRead, HasReadAll, HasReadSoFar}
+use Rattle.route_program.specs.Counted.{more_by, FailedLast, ReadFault}
 use Rattle.route_feed.specs.Output.{whole_commands, at_end, lines_output, output, replies}
 use Rattle.route_feed.specs.Replies.{printed}
 use Rattle.route_feed.specs.Streams.{closings, replies_in}
@@ -42,7 +42,7 @@ module _ {R W : Type 0} (remaining : R → Option (List ℕ)) (contents : W → 
   LeadEnds from to old new (Ok done) = HasReadAll remaining (λ bytes. (refusals : List Bool) × Outputs contents (output bytes refusals) old new) from to
   LeadEnds from to old new (Err Why.Read) = HasRead remaining (λ bytes. (refusals : List Bool) × Outputs contents (lines_output bytes refusals) old new) from to × ReadFault from to
   LeadEnds from to old new (Err Why.Write) =
-      (HasRead remaining (λ bytes. (refusals : List Bool) × Stopped contents [] (whole_commands bytes) refusals old new) from to × ReadWell from to)
+      HasReadSoFar remaining (λ bytes. (refusals : List Bool) × Stopped contents [] (whole_commands bytes) refusals old new) from to
       ⊎ HasReadAll remaining (λ bytes. (refusals : List Bool) × Stopped contents [] (whole_commands bytes ++ at_end (rest bytes)) refusals old new) from to
   LeadEnds from to old new (Err Why.Memory) = (to ≡ from) × (new ≡ old)
   LeadEnds from to old new (Err Why.Line) = ⊥

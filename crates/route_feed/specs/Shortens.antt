@@ -1,6 +1,6 @@
 -- The effect of `shorten` on its devices, by its result.
 use Rattle.std.specs.Prelude.{◌≡◌, ℕ, List, ◌⊎◌, Option, Result, Ok, Err}
-use Rattle.std.specs.Io.KnownBytes.{Appends, IsAtEnd}
+use Rattle.std.specs.Io.KnownBytes.{Appends}
 use Rattle.route_lines.specs.Bytes.{lines}
 use Rattle.route_laws.specs.LeastTables.{IsLeast}
 use Rattle.route_laws.specs.Tables.{Route}
@@ -8,8 +8,8 @@ use Rattle.route_program.specs.declared.counted.Counted.{Counted}
 use Rattle.route_program.specs.declared.error.RunError.{RunError}
 use Rattle.route_program.specs.declared.error.RunError.TheVariants as Why
 use Rattle.route_feed.specs.AddLines.{add_lines}
-use Rattle.route_program.specs.Devices.{Delivered, HasRead, HasReadAll, Torn}
-use Rattle.route_program.specs.Counted.{ReadFault, ReadWell}
+use Rattle.route_program.specs.Devices.{Delivered, HasRead, HasReadAll, HasReadSoFar, Torn}
+use Rattle.route_program.specs.Counted.{ReadFault}
 use Rattle.route_feed.specs.Follows.{AreReplies, MeetsAnother, MeetsWant}
 use Rattle.route_feed.specs.Streams.{committed, painted_hop, replies_in}
 
@@ -26,7 +26,7 @@ module _ {R W : Type 0} (remaining : R → Option (List ℕ)) (contents : W → 
   abbrev pub ShortenEnds : Counted R → Counted R → Counted W → Counted W → Result Unit RunError → Type 0
   ShortenEnds from to old new (Ok done) = HasReadAll remaining (λ bytes. AreReplies (lines bytes) × ((routes : List Route) × IsLeastFor bytes routes × Delivered contents old new (add_lines routes))) from to
   ShortenEnds from to old new (Err Why.Read) = HasRead remaining (λ bytes. AreReplies (lines bytes)) from to × ReadFault from to × (new ≡ old)
-  ShortenEnds from to old new (Err Why.Line) = MeetsAnother remaining from to × ReadWell from to × (new ≡ old)
+  ShortenEnds from to old new (Err Why.Line) = MeetsAnother remaining from to × (new ≡ old)
   ShortenEnds from to old new (Err Why.Write) = HasReadAll remaining (λ bytes. AreReplies (lines bytes) × ((routes : List Route) × IsLeastFor bytes routes × Torn contents old new (add_lines routes))) from to
   ShortenEnds from to old new (Err Why.Memory) =
-      ((to ≡ from) ⊎ HasRead remaining (λ bytes. MeetsWant (lines bytes)) from to ⊎ (HasRead remaining (λ bytes. AreReplies (lines bytes)) from to × IsAtEnd (remaining to.device))) × ReadWell from to × (new ≡ old)
+      ((to ≡ from) ⊎ HasReadSoFar remaining (λ bytes. MeetsWant (lines bytes)) from to ⊎ HasReadAll remaining (λ bytes. AreReplies (lines bytes)) from to) × (new ≡ old)

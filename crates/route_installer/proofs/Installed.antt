@@ -275,6 +275,7 @@ module _ {R W : Type 0} (remaining : R → Option (List ℕ)) (contents : W → 
       piece = s.piece;
       after = s.after;
       read = read;
+      well = well;
       split = s.split;
       are = are_notes s.before s.notes s.taken.spelled s.taken.fit;
     }
@@ -285,7 +286,6 @@ module _ {R W : Type 0} (remaining : R → Option (List ℕ)) (contents : W → 
         let c = after_notes begin s.notes in
         let u = unfit contents c s.last s.piece s.mid new (note_of s.piece) (why_not contents c s.last s.piece s.mid new Why.Line s.stops) in (
           record { meets = meets Why.Line s; unfit = u.0; gives = subst (WritesBatches contents s.notes old) (sym u.1) (gives_output contents c s.before s.notes old s.mid s.taken) },
-          well,
           ap (λ w. w.faults) u.1 ∙ s.taken.closed.faults,
         )
     line_ends Why.Memory s =
@@ -299,7 +299,6 @@ module _ {R W : Type 0} (remaining : R → Option (List ℕ)) (contents : W → 
             wants = wants;
             gives = subst (WritesBatches contents s.notes old) (sym same) (gives_output contents c s.before s.notes old s.mid s.taken);
           },
-          well,
           ap (λ v. v.faults) same ∙ s.taken.closed.faults,
         )
     line_ends Why.Write s =
@@ -315,7 +314,6 @@ module _ {R W : Type 0} (remaining : R → Option (List ℕ)) (contents : W → 
             is_front = f.torn.is_front;
             gives = gives_then contents c s.before s.notes f.torn.front old s.mid new s.taken f.torn.appended f.torn.flushes;
           },
-          well,
           (f.torn.failed.0 ∙ ap (λ n. n + 1) s.taken.closed.faults, f.torn.failed.1),
         )
     line_ends Why.Read s =
@@ -341,12 +339,12 @@ module _ {R W : Type 0} (remaining : R → Option (List ℕ)) (contents : W → 
 
     -- that did
     pub install_ended : (left : Rest) → Runs (TakesNoteLine contents) remaining a from old (Ok left) b to new → InstallEnds remaining contents from to old new (Ok tt)
-    install_ended left x = let all = all_are x.bytes x.read x.ends.0 in (all.0, x.ends.2, x.ends.3, x.ends.4, all.1)
+    install_ended left x = let all = all_are x.bytes x.read x.ends.0 in (all.0, x.ends.2, all.1)
 
 -- where the reader tells its bytes
 pub install_known : {R W : Type 0} (remaining : R → Option (List ℕ)) (contents : W → Option (List ℕ)) (from to : Counted R) (old new : Counted W) (r : Result Unit RunError) → InstallEnds remaining contents from to old new r
     → OnOk r (IfSome (remaining from.device) (λ bytes. AppendsInstalled (lines bytes) (contents old.device) (contents new.device)))
 install_known remaining contents from to old new (Ok done) x =
     let s = x.0 in
-    Consumes-whole (remaining from.device) (remaining to.device) s.bytes _ s.read.0 x.1 (s.notes, s.are, s.gives.written)
+    Consumes-whole (remaining from.device) (remaining to.device) s.bytes _ s.read.0 x.1.at_end (s.notes, s.are, s.gives.written)
 install_known remaining contents from to old new (Err e) x = tt

@@ -1,6 +1,6 @@
 -- The effect of `install` on its devices, by its result.
-use Rattle.std.specs.Prelude.{◌≡◌, ◌<◌, ℕ, ◌⊎◌, List, [], ◌∷◌, ◌++◌, length, Option, Some, Result, Ok, Err, false}
-use Rattle.std.specs.Io.KnownBytes.{Appends, IsAtEnd}
+use Rattle.std.specs.Prelude.{◌≡◌, ◌<◌, ℕ, ◌⊎◌, List, [], ◌∷◌, ◌++◌, length, Option, Some, Result, Ok, Err}
+use Rattle.std.specs.Io.KnownBytes.{Appends}
 use Rattle.route_lines.specs.Bytes.{lines}
 use Rattle.route_lines.specs.Spelled.{note_of}
 use Rattle.route_lines.specs.declared.fib_input.FibInput.{FibInput}
@@ -8,7 +8,7 @@ use Rattle.route_program.specs.declared.counted.Counted.{Counted}
 use Rattle.route_program.specs.declared.error.RunError.{RunError}
 use Rattle.route_program.specs.declared.error.RunError.TheVariants as Why
 use Rattle.route_program.specs.Counted.{more_by, FailedLast, Flushed, ReadFault, ReadWell}
-use Rattle.route_program.specs.Devices.{HasReturned}
+use Rattle.route_program.specs.Devices.{HasReturned, MetEnd}
 use Rattle.route_installer.specs.Installing.{AreNotes, IsUnfit, MayWant, Noted, after_notes, batches_given, begin, installed_bytes, noted_bytes}
 
 -- the pieces are notes, and their output was written
@@ -27,7 +27,7 @@ module _ {W : Type 0} (contents : W → Option (List ℕ)) where
     pub flushes : new.flushes ≡ more_by (batches_given notes) old.flushes
 
 module _ {R : Type 0} (remaining : R → Option (List ℕ)) where
-  -- the reader returned some bytes, and the lines before one of them are notes
+  -- the reader returned some bytes, the lines before one of them are notes, and no read failed or met the end
   pub record Meets (from to : Counted R) : Type 0 where
     pub bytes : List ℕ
     pub notes : List Noted
@@ -35,6 +35,7 @@ module _ {R : Type 0} (remaining : R → Option (List ℕ)) where
     pub piece : List ℕ
     pub after : List (List ℕ)
     pub read : HasReturned remaining from to bytes
+    pub well : ReadWell from to
     pub split : lines bytes ≡ before ++ piece ∷ after
     pub are : AreNotes before notes
 
@@ -78,10 +79,9 @@ module _ {R W : Type 0} (remaining : R → Option (List ℕ)) (contents : W → 
   -- and the output of those before it was written and flushed. `Memory`: the same of a note that may need memory, or nothing was done.
   -- `Write`: the writer failed at a note that has output, in its last call. A beginning of this output was written too, but not flushed.
   abbrev pub InstallEnds : Counted R → Counted R → Counted W → Counted W → Result Unit RunError → Type 0
-  InstallEnds from to old new (Ok done) =
-      Installs from to old new × IsAtEnd (remaining to.device) × (to.faults ≡ from.faults) × (to.failing ≡ false) × (new.faults ≡ old.faults)
+  InstallEnds from to old new (Ok done) = Installs from to old new × MetEnd remaining from to × (new.faults ≡ old.faults)
   InstallEnds from to old new (Err Why.Read) = Installs from to old new × ReadFault from to × (new.faults ≡ old.faults)
-  InstallEnds from to old new (Err Why.Line) = MeetsUnfit from to old new × ReadWell from to × (new.faults ≡ old.faults)
-  InstallEnds from to old new (Err Why.Write) = MeetsFault from to old new × ReadWell from to × FailedLast old new
+  InstallEnds from to old new (Err Why.Line) = MeetsUnfit from to old new × (new.faults ≡ old.faults)
+  InstallEnds from to old new (Err Why.Write) = MeetsFault from to old new × FailedLast old new
   InstallEnds from to old new (Err Why.Memory) =
-      ((to ≡ from) × (new ≡ old)) ⊎ (MeetsWanting from to old new × ReadWell from to × (new.faults ≡ old.faults))
+      ((to ≡ from) × (new ≡ old)) ⊎ (MeetsWanting from to old new × (new.faults ≡ old.faults))

@@ -1,5 +1,5 @@
 -- Lines taken one after another.
-use Rattle.std.proofs.Common.{◌≡◌, ◌≢◌, ℕ, ◌+◌, ◌-◌, ◌<◌, ◌≤◌, All, eq-eqb, eqb-true, inl, inr, ⊎_elim, List, [], ◌∷◌, ◌++◌, length, length-append, take, drop, suc, get_or, Option, Some, Result, Ok, Err, refl, sym, ap, ◌∙◌, subst, append_assoc, take-append-drop, option_to_list, drop-cons, OnOk, arith}
+use Rattle.std.proofs.Common.{◌≡◌, ◌≢◌, ◌==◌, false, ℕ, ◌+◌, ◌-◌, ◌<◌, ◌≤◌, All, eq-eqb, eqb-true, ne_eqb, inl, inr, ⊎_elim, List, [], ◌∷◌, ◌++◌, length, length-append, take, drop, zero, suc, get_or, Option, Some, Result, Ok, Err, refl, sym, ap, ◌∙◌, subst, append_assoc, take-append-drop, option_to_list, drop-cons, OnOk, arith}
 use Rattle.route_lines.specs.Kept.{Kept}
 use Rattle.std.proofs.lemmas.Result.{on_ok_weaker}
 use Rattle.std.specs.Io.KnownBytes.{Consumes}
@@ -69,6 +69,11 @@ module _ {S W : Type 0} (takes : S → Line → Counted W → Result Unit RunErr
   takes_more a b c k m bs cs u v w r p e q =
       subst (λ ls. TakesAll takes a ls u r c w) (sym (answers-append k bs cs))
       (TakesAll-append a b c (answers k bs) (answers (fed_all k bs) cs) u v w r p (subst (λ n. TakesAll takes b (answers n cs) v r c w) e q))
+
+  -- a line was refused, so there are bytes
+  pub refused_some : (a c : S) (k : Kept) (n : ℕ) (bs : List ℕ) (u w : Counted W) (e : RunError) → TakesAll takes a (answers k (take n bs)) u (Err e) c w → (n == 0) ≡ false
+  refused_some a c k zero bs u w e p = absurd (let q = p.0 in cc)
+  refused_some a c k (suc n) bs u w e p = ne_eqb (suc n) 0 (omega arith)
 
   pub takes_longer : (a c : S) (k : Kept) (bs cs : List ℕ) (u w : Counted W) (e : RunError) → TakesAll takes a (answers k bs) u (Err e) c w → TakesAll takes a (answers k (bs ++ cs)) u (Err e) c w
   takes_longer a c k bs cs u w e p = subst (λ ls. TakesAll takes a ls u (Err e) c w) (sym (answers-append k bs cs)) (TakesAll-longer a c (answers k bs) (answers (fed_all k bs) cs) u w e p)

@@ -19,6 +19,11 @@ MoreByIsMin = (times n : ℕ) → n ≤ 2 ^ 64 - 1 → more_by times n ≡ min (
 abbrev pub more_if : Bool → ℕ → ℕ
 more_if fault n = if fault then one_more n else n
 
+-- a `read` returned no bytes and no error
+abbrev pub read_none : {E : Type 0} → Result ℕ E → Bool
+read_none (Ok n) = n == 0
+read_none (Err e) = false
+
 -- a `write` of a piece of this length failed, or wrote none of a nonempty one
 abbrev pub took_none : {E : Type 0} → Result ℕ E → ℕ → Bool
 took_none (Ok n) length = (n == 0) && nat_lt 0 length
@@ -45,14 +50,15 @@ CanRun reader writer = CanRead reader × (writer.faults < 2 ^ 63)
 abbrev pub FailedLast : {D : Type 0} → Counted D → Counted D → Type 0
 FailedLast from to = (to.faults ≡ from.faults + 1) × (to.failing ≡ true)
 
--- no read failed; the reader isn't failing, unless its last call before was a fault
+-- no read failed or met the end; the reader isn't failing, unless its last call before was a fault
 pub record ReadWell {R : Type 0} (from to : Counted R) : Type 0 where
   pub faults : to.faults ≡ from.faults
+  pub ends : to.ends ≡ from.ends
   pub failing : from.failing ≡ false → to.failing ≡ false
 
--- the reader failed, and was not called again; or it was called 2^62 times, and never failed
+-- the reader failed, and was not called again; or it was called 2^62 times, and never failed; no read met the end
 abbrev pub ReadFault : {R : Type 0} → Counted R → Counted R → Type 0
-ReadFault from to = FailedLast from to ⊎ ((from.reads + 2 ^ 62 ≤ to.reads) × (to.faults ≡ from.faults))
+ReadFault from to = (FailedLast from to ⊎ ((from.reads + 2 ^ 62 ≤ to.reads) × (to.faults ≡ from.faults))) × (to.ends ≡ from.ends)
 
 -- bytes were written and then flushed, `times` times, with no other flush, nothing was written after that, and the last call was no fault
 abbrev pub Flushed : {W : Type 0} → ℕ → Counted W → Counted W → Type 0

@@ -6,7 +6,7 @@ use Rattle.route_lines.specs.declared.reply.Closing.{Closing}
 use Rattle.route_program.specs.declared.counted.Counted.{Counted}
 use Rattle.route_program.specs.declared.error.RunError.{RunError}
 use Rattle.route_program.specs.declared.error.RunError.TheVariants.{Write}
-use Rattle.route_program.specs.Counted.{FailedLast, Flushed, FlushedAll}
+use Rattle.route_program.specs.Counted.{FailedLast, Flushed, FlushedAll, ReadWell, one_more}
 
 -- the reader returned these bytes, in at most one call more than there are bytes
 abbrev pub HasReturned : {R : Type 0} → (R → Option (List ℕ)) → Counted R → Counted R → List ℕ → Type 0
@@ -18,9 +18,20 @@ pub record HasRead {R : Type 0} (remaining : R → Option (List ℕ)) (P : List 
   pub read : HasReturned remaining from to bytes
   pub holds : P bytes
 
--- the reader returned all its bytes, P holds of them, and no read failed
+-- the reader is at its end, which one read met, and no other; no read failed, and the last call was no fault
+pub record MetEnd {R : Type 0} (remaining : R → Option (List ℕ)) (from to : Counted R) : Type 0 where
+  pub at_end : IsAtEnd (remaining to.device)
+  pub ends : to.ends ≡ one_more from.ends
+  pub faults : to.faults ≡ from.faults
+  pub failing : to.failing ≡ false
+
+-- the reader returned some bytes, P holds of them, and no read failed or met the end
+abbrev pub HasReadSoFar : {R : Type 0} → (R → Option (List ℕ)) → (List ℕ → Type 0) → Counted R → Counted R → Type 0
+HasReadSoFar remaining P from to = HasRead remaining P from to × ReadWell from to
+
+-- the reader returned all its bytes, P holds of them, no read failed, and one met the end
 abbrev pub HasReadAll : {R : Type 0} → (R → Option (List ℕ)) → (List ℕ → Type 0) → Counted R → Counted R → Type 0
-HasReadAll remaining P from to = HasRead remaining P from to × IsAtEnd (remaining to.device) × (to.faults ≡ from.faults) × (to.failing ≡ false)
+HasReadAll remaining P from to = HasRead remaining P from to × MetEnd remaining from to
 
 -- the test that a text isn't empty
 abbrev pub has_bytes : List ℕ → Bool

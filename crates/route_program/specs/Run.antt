@@ -1,6 +1,5 @@
 -- The effect of a run on the lines of its input.
-use Rattle.std.specs.Prelude.{◌≡◌, ℕ, ◌⊎◌, List, [], ◌∷◌, Option, Result, Ok, Err, IsErr, false}
-use Rattle.std.specs.Io.KnownBytes.{IsAtEnd}
+use Rattle.std.specs.Prelude.{◌≡◌, ℕ, ◌⊎◌, List, [], ◌∷◌, Option, Result, Ok, Err, IsErr}
 use Rattle.route_lines.specs.Bytes.{rest}
 use Rattle.route_lines.specs.Lines.{lines_in, rest_of}
 use Rattle.route_lines.specs.declared.cutter.Line.{Line}
@@ -9,7 +8,7 @@ use Rattle.route_program.specs.declared.counted.Counted.{Counted}
 use Rattle.route_program.specs.declared.error.RunError.{RunError}
 use Rattle.route_program.specs.declared.error.RunError.TheVariants.{Read}
 use Rattle.route_program.specs.Counted.{ReadFault, ReadWell}
-use Rattle.route_program.specs.Devices.{HasReturned}
+use Rattle.route_program.specs.Devices.{HasReturned, MetEnd}
 
 -- `takes` is the effect of receiving a line, by the result
 module _ {S W : Type 0} (takes : S → Line → Counted W → Result Unit RunError → S → Counted W → Type 0) where
@@ -24,7 +23,7 @@ module _ {S W : Type 0} (takes : S → Line → Counted W → Result Unit RunErr
     -- the end of a run over these bytes: at the end of the input, at a fault of the reader, or at a line that was not accepted
     abbrev pub RunEnds : List ℕ → S → Counted R → Counted W → Result Rest RunError → S → Counted R → Counted W → Type 0
     RunEnds bytes a from old (Ok left) b to new =
-        TakesAll a (lines_in bytes) old (Ok tt) b new × (left ≡ rest_of (rest bytes)) × IsAtEnd (remaining to.device) × (to.faults ≡ from.faults) × (to.failing ≡ false)
+        TakesAll a (lines_in bytes) old (Ok tt) b new × (left ≡ rest_of (rest bytes)) × MetEnd remaining from to
     RunEnds bytes a from old (Err e) b to new =
         (TakesAll a (lines_in bytes) old (Ok tt) b new × (e ≡ Read) × ReadFault from to)
         ⊎ (TakesAll a (lines_in bytes) old (Err e) b new × ReadWell from to)

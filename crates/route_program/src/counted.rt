@@ -2,12 +2,12 @@
 ghost use Rattle.std.specs.Prelude.{◌≡◌, ◌&&◌, ◌||◌, false, not, length, is_err};
 ghost use Rattle.std.specs.Io.{ReadsAtMost, WritesAtMost};
 ghost use Rattle.std.specs.Io.KnownBytes.{Keeps, ReadConsumes, WriteAppends};
-ghost use Rattle.route_program.specs.Counted.{one_more, more_if, took_none, took_some};
+ghost use Rattle.route_program.specs.Counted.{one_more, more_if, read_none, took_none, took_some};
 
 use std::io;
 use std::io::{Read, Write};
 
-/// A reader or a writer that counts its `read` calls, its faults, and its successful flushes.
+/// A reader or a writer that counts its `read` calls, those that returned no bytes, its faults, and its successful flushes.
 ///
 /// It passes on `read`, `write` and `flush`. Its contracts say as much about its bytes as those of the device.
 ///
@@ -24,6 +24,7 @@ use std::io::{Read, Write};
 pub struct Counted<D> {
     device: D,
     reads: u64,
+    ends: u64,
     faults: u64,
     failing: bool,
     waiting: bool,
@@ -36,8 +37,9 @@ impl<D> Counted<D> {
         // The device is the given one.
         ensures device { result.device ≡ device }
 
-        // No read is counted, no fault is counted, and the device isn't failing.
+        // No read is counted, no end, no fault, and the device isn't failing.
         ensures reads { result.reads ≡ 0 }
+        ensures ends { result.ends ≡ 0 }
         ensures faults { result.faults ≡ 0 }
         ensures failing { result.failing ≡ false }
 
@@ -48,6 +50,7 @@ impl<D> Counted<D> {
         Counted {
             device,
             reads: 0,
+            ends: 0,
             faults: 0,
             failing: false,
             waiting: false,
@@ -62,6 +65,7 @@ impl<D> Counted<D> {
         let Counted {
             device,
             reads: _,
+            ends: _,
             faults: _,
             failing: _,
             waiting: _,
@@ -75,6 +79,13 @@ impl<D> Counted<D> {
         ensures { result ≡ self.now.reads }
     {
         self.reads
+    }
+
+    /// Returns the number of reads that returned no bytes. It stays at the greatest `u64`.
+    pub fn ends(&self) -> u64
+        ensures { result ≡ self.now.ends }
+    {
+        self.ends
     }
 
     /// Returns the number of faults: errors of `read`, `write` and `flush`, and calls of `write` that wrote none of a nonempty piece. It
@@ -126,6 +137,7 @@ impl<D> Counted<D> {
     fn count(&mut self, fault: bool)
         ensures device { self.new.device ≡ self.old.device }
         ensures reads { self.new.reads ≡ self.old.reads }
+        ensures ends { self.new.ends ≡ self.old.ends }
         ensures faults { self.new.faults ≡ more_if fault self.old.faults }
         ensures failing { self.new.failing ≡ fault }
         ensures waiting { self.new.waiting ≡ self.old.waiting }
@@ -145,6 +157,7 @@ impl<R: Read> Read for Counted<R> {
         ensures bound { ReadsAtMost result buf.new }
         ensures bytes { ReadConsumes (R.remaining self.old.device) (R.remaining self.new.device) result buf.new }
         ensures reads { self.new.reads ≡ one_more self.old.reads }
+        ensures ends { self.new.ends ≡ more_if (read_none result) self.old.ends }
         ensures faults { self.new.faults ≡ more_if (is_err result) self.old.faults }
         ensures failing { self.new.failing ≡ is_err result }
         ensures waiting { self.new.waiting ≡ self.old.waiting }
@@ -153,6 +166,9 @@ impl<R: Read> Read for Counted<R> {
         self.reads = self.reads.saturating_add(1);
         let result = self.device.read(buf);
         self.count(result.is_err());
+        if let Ok(0) = result {
+            self.ends = self.ends.saturating_add(1);
+        }
         result
     }
 }
@@ -164,6 +180,7 @@ impl<W: Write> Write for Counted<W> {
         ensures bound { WritesAtMost result buf.now }
         ensures bytes { WriteAppends (W.contents self.old.device) (W.contents self.new.device) result buf.now }
         ensures reads { self.new.reads ≡ self.old.reads }
+        ensures ends { self.new.ends ≡ self.old.ends }
         ensures faults { self.new.faults ≡ more_if (took_none result (length buf.now)) self.old.faults }
         ensures failing { self.new.failing ≡ took_none result (length buf.now) }
         ensures waiting { self.new.waiting ≡ (took_some result || self.old.waiting) }
@@ -182,6 +199,7 @@ impl<W: Write> Write for Counted<W> {
     fn flush(&mut self) -> io::Result<()>
         ensures bytes { Keeps (W.contents self.old.device) (W.contents self.new.device) }
         ensures reads { self.new.reads ≡ self.old.reads }
+        ensures ends { self.new.ends ≡ self.old.ends }
         ensures faults { self.new.faults ≡ more_if (is_err result) self.old.faults }
         ensures failing { self.new.failing ≡ is_err result }
         ensures waiting { self.new.waiting ≡ (is_err result && self.old.waiting) }

@@ -28,7 +28,7 @@ impl<'a, R> Input<'a, R> {
     /// Makes the input of a device; no bytes are kept, and nothing is counted yet. `more` is the one that the output reads.
     pub fn new(device: R, more: &'a Cell<bool>) -> Input<'a, R>
         ensures device { result.device.device ≡ device }
-        ensures counts { (result.device.reads ≡ 0) × (result.device.faults ≡ 0) }
+        ensures counts { (result.device.reads ≡ 0) × (result.device.ends ≡ 0) × (result.device.faults ≡ 0) }
         ensures flushes { (result.device.flushes ≡ 0) × (result.device.waiting ≡ false) }
         ensures failing { result.device.failing ≡ false }
         ensures kept { drop result.start result.kept.items ≡ [] }

@@ -25,7 +25,7 @@ impl<'a, W: Drop> Output<'a, W> {
     /// Makes the output of a device; nothing is counted yet. `more` is the one that the input sets.
     pub fn new(device: W, more: &'a Cell<bool>) -> Output<'a, W>
         ensures device { result.device.device ≡ device }
-        ensures counts { (result.device.reads ≡ 0) × (result.device.faults ≡ 0) }
+        ensures counts { (result.device.reads ≡ 0) × (result.device.ends ≡ 0) × (result.device.faults ≡ 0) }
         ensures flushes { (result.device.flushes ≡ 0) × (result.device.waiting ≡ false) }
         ensures failing { result.device.failing ≡ false }
     {

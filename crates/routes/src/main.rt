@@ -5,6 +5,7 @@ ghost use Rattle.std.specs.Prelude.{◌≡◌, ◌≤◌, ◌+◌, ◌^◌, ◌�
 ghost use Rattle.std.specs.String.{string_bytes};
 ghost use Rattle.std.specs.Vec.Iter.{into_iter_items};
 ghost use Rattle.route_program.specs.Counted.{CanRead, CanRun, ReadFault};
+ghost use Rattle.route_program.specs.Devices.{MetEnd};
 ghost use Rattle.route_feed.specs.Follows.{MeetsAnother};
 ghost use Rattle.route_program.specs.Status.{status_of};
 ghost use Rattle.route_program.specs.declared.error.RunError.{RunError as AnyRunError};
@@ -128,8 +129,9 @@ fn run_mode<R: Read, W: Write + Drop>(
 ) -> Result<W, RunError>
     requires { CanRead reader.old }
 
-    // On success the output for all input was written.
+    // On success the output for all input was written, and one read met the end.
     ensures known { IfOk result (λ w. IfSome (R.remaining reader.old.device) (λ bytes. ModeWrites mode bytes (W.contents output) (W.contents w))) }
+    ensures end { OnOk result (MetEnd R.remaining reader.old reader.new) }
 
     // An error comes only at these points of the input.
     ensures read { IsErrOf result RunError.Read → ReadFault reader.old reader.new }

@@ -1,11 +1,10 @@
 -- The line at which a run ends.
 use Rattle.std.specs.Prelude.{◌≡◌, ◌<◌, ℕ, List, [], ◌∷◌, ◌++◌, length, Option, Some}
-use Rattle.std.specs.Io.KnownBytes.{IsAtEnd}
 use Rattle.route_lines.specs.Bytes.{lines}
 use Rattle.route_lines.specs.Spelled.{note_of}
 use Rattle.route_lines.specs.declared.fib_input.FibInput.{FibInput}
 use Rattle.route_program.specs.declared.counted.Counted.{Counted}
-use Rattle.route_program.specs.Devices.{HasRead}
+use Rattle.route_program.specs.Devices.{HasReadAll}
 use Rattle.route_installer.specs.Installing.{AreNotes, IsUnfit, MayWant, Noted, after_notes, begin, noted_bytes}
 use Rattle.route_installer.specs.Installs.{Meets}
 
@@ -24,4 +23,4 @@ module _ {R : Type 0} (remaining : R → Option (List ℕ)) where
 
   -- the reader gave all of its bytes, and each of their lines is a note
   abbrev pub ReadsNotes : Counted R → Counted R → Type 0
-  ReadsNotes from to = HasRead remaining (λ bytes. (notes : List Noted) × AreNotes (lines bytes) notes) from to × IsAtEnd (remaining to.device)
+  ReadsNotes from to = HasReadAll remaining (λ bytes. (notes : List Noted) × AreNotes (lines bytes) notes) from to

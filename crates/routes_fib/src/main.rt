@@ -2,9 +2,10 @@
 //! output.
 #![tactic(auto)]
 
-ghost use Rattle.std.specs.Prelude.{◌≡◌, ◌≤◌, ◌+◌, ◌^◌, ◌↔◌, ◌⊎◌, [], drop, IfErr, IfOk, IfSome, IsErrOf, IsOk};
+ghost use Rattle.std.specs.Prelude.{◌≡◌, ◌≤◌, ◌+◌, ◌^◌, ◌↔◌, ◌⊎◌, [], drop, IfErr, IfOk, IfSome, IsErrOf, IsOk, OnOk};
 ghost use Rattle.std.specs.Vec.Iter.{into_iter_items};
 ghost use Rattle.route_program.specs.Counted.{CanRead, ReadFault};
+ghost use Rattle.route_program.specs.Devices.{MetEnd};
 ghost use Rattle.route_installer.specs.Installs.{AppendsInstalled};
 ghost use Rattle.route_program.specs.Status.{status_of};
 ghost use Rattle.route_program.specs.declared.error.RunError.{RunError as AnyRunError};
@@ -99,8 +100,9 @@ fn install_by<R: Read, W: Write + Drop>(
 ) -> Result<W, RunError>
     requires { CanRead reader.old }
 
-    // On success all batches were written.
+    // On success all batches were written, and one read met the end.
     ensures known { IfOk result (λ w. IfSome (R.remaining reader.old.device) (λ bytes. AppendsInstalled (lines bytes) (W.contents output) (W.contents w))) }
+    ensures end { OnOk result (MetEnd R.remaining reader.old reader.new) }
 
     // An error comes only at these points of the input.
     ensures read { IsErrOf result RunError.Read → ReadFault reader.old reader.new }

@@ -15,11 +15,11 @@ use Rattle.routes.proofs.run_mode.Goals as goal
 may_fail : {R W : Type 0} (remaining : R → Option (List ℕ)) (contents : W → Option (List ℕ)) (mode : Mode) (from to : Counted R) (old new : Counted W)
     → ModeEnds remaining contents mode from to old new (Err Write) → MayFailToWrite remaining mode from to
 may_fail remaining contents Lead from to old new x = ⊎_elim
-    (λ s. inl (record { bytes = s.0.bytes; read = s.0.read; holds = let another = s.0.holds.1.another in omega (arith, another, length-map (lines s.0.bytes) command_of) }))
-    (λ s. inr (record { bytes = s.0.bytes; read = s.0.read; holds = tt }, s.1, s.2, s.3))
+    (λ s. inl (record { bytes = s.0.bytes; read = s.0.read; holds = let another = s.0.holds.1.another in omega (arith, another, length-map (lines s.0.bytes) command_of) }, s.1))
+    (λ s. inr (record { bytes = s.0.bytes; read = s.0.read; holds = tt }, s.1))
     x
-may_fail remaining contents Follow from to old new x = (record { bytes = x.0.bytes; read = x.0.read; holds = x.0.holds.0 }, x.1, x.2, x.3)
-may_fail remaining contents Least from to old new x = (record { bytes = x.0.bytes; read = x.0.read; holds = x.0.holds.0 }, x.1, x.2, x.3)
+may_fail remaining contents Follow from to old new x = (record { bytes = x.0.bytes; read = x.0.read; holds = x.0.holds.0 }, x.1)
+may_fail remaining contents Least from to old new x = (record { bytes = x.0.bytes; read = x.0.read; holds = x.0.holds.0 }, x.1)
 
 pub returns-in-Err-clause-write : goal.returns-in-Err-clause-write
 returns-in-Err-clause-write g c e =

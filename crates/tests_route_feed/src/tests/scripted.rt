@@ -149,6 +149,20 @@ fn faults_are<R, W>(
     row_is(rt, row, writer.waiting() && !writer.failing(), false);
 }
 
+/// Checks the number of reads that met the end: one in a run to the end, and none in one that ended before.
+fn ends_are<R>(
+    rt: &impl Abort,
+    row: (Mode, &str),
+    reader: &Counted<R>,
+    ended: Result<(), RunError>,
+) {
+    match ended {
+        Ok(()) => row_is(rt, row, reader.ends(), 1),
+        Err(RunError::Write) => {}
+        Err(_) => row_is(rt, row, reader.ends(), 0),
+    }
+}
+
 /// Checks the number of reads: by the reader's own count and by `Counted`.
 fn reads_are(rt: &impl Abort, row: (Mode, &str), reader: Counted<Given<'_>>, wanted: usize) {
     let counted = reader.reads();
@@ -187,6 +201,7 @@ pub(crate) fn ends(
     let (ended, reader, writer) = run(alloc, row.0, given, held);
     row_is(rt, row, ended, end.0);
     faults_are(rt, row, &reader, &writer, ended);
+    ends_are(rt, row, &reader, ended);
     reads_are(rt, row, reader, end.1);
     let calls = match script {
         Script::Write(fails, _, _) => fails,

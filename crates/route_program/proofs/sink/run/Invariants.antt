@@ -8,4 +8,5 @@ invariant-loop-read g l = record {
   can : g.S.Sink.can_take l.sink l.writer;
   reads : l.reader.reads ≡ l.fn.reader.reads + l._read;
   faults : l.reader.faults ≡ l.fn.reader.faults;
+  ends : l.reader.ends ≡ l.fn.reader.ends;
 }
