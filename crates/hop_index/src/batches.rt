@@ -109,6 +109,22 @@ fn list_nodes(entries: &[u32], places: &mut [usize]) -> usize
     count
 }
 
+/// Of the first `count` places, stores those of entries that are still nodes first, and returns their number. No branch depends on an
+/// entry.
+fn keep_nodes(entries: &[u32], places: &mut [usize], count: usize) -> usize
+    requires { ArePlaces (length entries.now) count places.old }
+    ensures all { length places.new ≡ length places.old }
+    ensures places { ArePlaces (length entries.now) result places.new }
+{
+    let mut kept = 0;
+    for at in 0..count {
+        let place = places[at];
+        places[kept] = place;
+        kept += usize::from(entries[place] >= MARK);
+    }
+    kept
+}
+
 /// The next entry of the addresses at these places.
 fn follow<A: Addressed>(sides: &Sides, addrs: &[A], entries: &mut [u32], places: &[usize])
     requires entries { AllLead sides.now.v4 sides.now.v6 A.address addrs.now entries.old }
@@ -121,19 +137,20 @@ fn follow<A: Addressed>(sides: &Sides, addrs: &[A], entries: &mut [u32], places:
     }
 }
 
-/// The third step, level by level: the entry that nodes lead each address to.
+/// The third step, level by level: the entry that nodes lead each address to. An entry that is no node stays so.
 fn lead<A: Addressed>(sides: &Sides, addrs: &[A], places: &mut [usize], entries: &mut [u32])
     requires places { length places.old ≡ length addrs.now }
     requires entries { AllLead sides.now.v4 sides.now.v6 A.address addrs.now entries.old }
     ensures all { length places.new ≡ length addrs.now }
     ensures entries { AllLead sides.now.v4 sides.now.v6 A.address addrs.now entries.new }
 {
+    let mut count = list_nodes(entries, places);
     for _ in 0..LEVELS {
-        let count = list_nodes(entries, places);
         if count == 0 {
             break;
         }
         follow(sides, addrs, entries, &places[..count]);
+        count = keep_nodes(entries, places, count);
     }
 }
 
