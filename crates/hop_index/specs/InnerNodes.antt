@@ -1,6 +1,6 @@
 -- Nodes, which divide cells again, and the entries of cells.
 use Rattle.std.specs.Prelude.{◌≡◌, ◌==◌, ℕ, ◌+◌, ◌-◌, ◌/◌, ◌%◌, ◌^◌, ◌<◌, ◌≤◌, ◌⊎◌, if◌then◌else◌, List, Option, Some, None, length, min, slice_index, slice_index_or}
-use Rattle.ipnet_addr.specs.Addresses.{Address, Family, Ipv4, Ipv6, width}
+use Rattle.ipnet_addr.specs.Addresses.{Address, Family, Ipv4, Ipv6}
 use Rattle.hop_index.specs.Indexes.{Index}
 use Rattle.hop_index.specs.Ranges.{HopRange, hop_in}
 use Rattle.hop_index.specs.InnerRanges.{EndsBelow, EndsFrom, cell_of, head_of}
@@ -51,9 +51,8 @@ pub record AreEntries (cell : ℕ → ℕ) (end : ℕ) (nodes : List StoredNode)
 abbrev pub AreNodes : List HopRange → ℕ → List StoredNode → List ℕ → Type 0
 AreNodes rs end nodes cells = (k : ℕ) (d : StoredNode) → k < length nodes → AreEntries (λ x. (slice_index_or nodes k d).place + cell_in (slice_index_or nodes k d) x) end nodes rs (slice_index_or nodes k d).before (slice_index_or nodes k d).after cells
 
--- ranges, the first cells of the chunks, and nodes that divide cells
+-- ranges, and nodes that divide cells of them
 pub record Divided : Type 0 where
-  pub tops : List ℕ
   pub ranges : List HopRange
   pub nodes : List StoredNode
 
@@ -65,21 +64,9 @@ abbrev pub divided_of : Family → Divided → Divided → Divided
 divided_of Ipv4 v4 v6 = v4
 divided_of Ipv6 v4 v6 = v6
 
--- the cell of a number, and that of an address among those of its family
-abbrev pub cell_at : ℕ → Divided → ℕ → ℕ
-cell_at width d x = cell_of d.tops (head_of width x)
-
-abbrev pub cell_of_address : Divided → Divided → Address → ℕ
-cell_of_address v4 v6 x = cell_at (width x.family) (divided_of x.family v4 v6) x.number
-
 -- the entry leads the address on among the ranges of its family
 abbrev pub LeadsAddress : Divided → Divided → Address → ℕ → Type 0
 LeadsAddress v4 v6 x entry = Leads (divided_of x.family v4 v6).nodes (divided_of x.family v4 v6).ranges x.number entry
-
--- the cell of each address
-pub record AreCells {A : Type 0} (v4 v6 : Divided) (address : A → Address) (addrs : List A) (cells : List ℕ) : Type 0 where
-  pub all : length cells ≡ length addrs
-  pub each : (k : ℕ) (a : A) (c : ℕ) → k < length addrs → slice_index_or cells k c ≡ cell_of_address v4 v6 (address (slice_index_or addrs k a))
 
 -- an entry for each address leads it on
 pub record AllLead {A : Type 0} (v4 v6 : Divided) (address : A → Address) (addrs : List A) (entries : List ℕ) : Type 0 where

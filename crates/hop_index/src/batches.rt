@@ -2,7 +2,7 @@
 ghost use Rattle.std.specs.Prelude.{◌≡◌, ℕ, ◌<◌, ◌≤◌, ◌⊎◌, Option, length, map, slice_index_or};
 ghost use Rattle.ipnet_addr.specs.Addresses.{Address, Ipv4, address_of};
 ghost use Rattle.hop_index.specs.Indexes.{hop_number, hop_of};
-ghost use Rattle.hop_index.specs.InnerNodes.{AllLead, AreCells, AreFound, ArePlaces, HasHop, IsPlace, hop_in_entry, index_of};
+ghost use Rattle.hop_index.specs.InnerNodes.{AllLead, AreFound, ArePlaces, HasHop, IsPlace, hop_in_entry, index_of};
 
 use crate::index::Sides;
 use crate::nodes::{LEVELS, MARK, has_hop, hop_in_entry};
@@ -73,24 +73,13 @@ impl FromHop for u64 {
     }
 }
 
-/// The first step: the cell of each address.
-fn locate<A: Addressed>(sides: &Sides, addrs: &[A], cells: &mut [usize])
-    requires { length cells.old ≡ length addrs.now }
-    ensures { AreCells sides.now.v4 sides.now.v6 A.address addrs.now cells.new }
-{
-    for place in 0..addrs.len() {
-        cells[place] = sides.cell(addrs[place].addr());
-    }
-}
-
-/// The second step: the entry of each cell.
-fn enter<A: Addressed>(sides: &Sides, addrs: &[A], cells: &[usize], entries: &mut [u32])
-    requires cells { AreCells sides.now.v4 sides.now.v6 A.address addrs.now cells.now }
-    requires entries { length entries.old ≡ length addrs.now }
+/// The first step: the entry of the cell of each address.
+fn enter<A: Addressed>(sides: &Sides, addrs: &[A], entries: &mut [u32])
+    requires { length entries.old ≡ length addrs.now }
     ensures { AllLead sides.now.v4 sides.now.v6 A.address addrs.now entries.new }
 {
     for place in 0..addrs.len() {
-        entries[place] = sides.entry(cells[place], addrs[place].addr());
+        entries[place] = sides.entry(addrs[place].addr());
     }
 }
 
@@ -137,7 +126,7 @@ fn follow<A: Addressed>(sides: &Sides, addrs: &[A], entries: &mut [u32], places:
     }
 }
 
-/// The third step, level by level: the entry that nodes lead each address to. An entry that is no node stays so.
+/// The second step, level by level: the entry that nodes lead each address to. An entry that is no node stays so.
 fn lead<A: Addressed>(sides: &Sides, addrs: &[A], places: &mut [usize], entries: &mut [u32])
     requires places { length places.old ≡ length addrs.now }
     requires entries { AllLead sides.now.v4 sides.now.v6 A.address addrs.now entries.old }
@@ -181,7 +170,7 @@ fn list_others<A: Addressed>(addrs: &[A], entries: &[u32], places: &mut [usize])
     count
 }
 
-/// The fourth step: the hops of entries that have one. The others get any hop.
+/// The third step: the hops of entries that have one. The others get any hop.
 fn tell<H: FromHop>(entries: &[u32], hops: &mut [H])
     requires { length hops.old ≡ length entries.now }
     ensures all { length hops.new ≡ length entries.now }
@@ -192,7 +181,7 @@ fn tell<H: FromHop>(entries: &[u32], hops: &mut [H])
     }
 }
 
-/// The fifth step: the hops of the addresses at these places, from their entries.
+/// The fourth step: the hops of the addresses at these places, from their entries.
 fn find<A: Addressed, H: FromHop>(
     sides: &Sides,
     addrs: &[A],
@@ -221,8 +210,7 @@ fn store<A: Addressed, H: FromHop>(sides: &Sides, addrs: &[A], hops: &mut [H])
     let mut entries = [0; GROUP];
     let places = &mut places[..addrs.len()];
     let entries = &mut entries[..addrs.len()];
-    locate(sides, addrs, places);
-    enter(sides, addrs, places, entries);
+    enter(sides, addrs, entries);
     lead(sides, addrs, places, entries);
     let count = list_others(addrs, entries, places);
     if count < addrs.len() {
