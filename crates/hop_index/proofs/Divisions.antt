@@ -1,33 +1,32 @@
 -- Cells lead each number on to fewer ranges.
 use Rattle.std.proofs.Common.{◌≡◌, ℕ, ◌+◌, ◌-◌, ◌*◌, ◌/◌, ◌%◌, ◌^◌, ◌<◌, ◌≤◌, ⊎_elim, List, [], ◌∷◌, ◌++◌, Option, Some, None, length, length-append, get_or, refl, sym, ap, ◌∙◌, subst, arith}
 use Rattle.std.proofs.lemmas.Bool.{cases_lt}
-use Rattle.std.proofs.lemmas.List.{get_or_append_left, get_or-append-add, get_or_push}
+use Rattle.std.proofs.lemmas.List.{get_or_append_left, get_or-append-add, get_or_push, length_push}
 use Rattle.std.proofs.lemmas.Nat.{mod-pow-add, pow-add, pow_pos}
 use Rattle.std.proofs.Math.Nat.{div-div-eq-div-mul, div-lt_iff_lt-mul, mul-le-mul_right, mul-lt-mul_of_pos_right}
 use Rattle.hop_index.specs.Ranges.{HopRange, hop_in}
-use Rattle.hop_index.specs.InnerRanges.{ArePadded, AreTops, EndsBelow, cell_of, head_of}
-use Rattle.hop_index.specs.InnerNodes.{AreEntries, AreNodes, HasHop, IsBetween, Leads, StoredNode, cell_by, cell_in, hop_in_entry}
-use Rattle.hop_index.proofs.Searches.{before_pads, divided_ascends, ends_from, fewer_from, found, head_ascends}
+use Rattle.hop_index.specs.InnerRanges.{ArePadded, AreTops, EndBelow, IsBetween, cell_of, head_of, range_at}
+use Rattle.hop_index.specs.InnerNodes.{AreEntries, AreNodes, HasHop, Leads, StoredNode, cell_by, cell_in, hop_in_entry}
+use Rattle.hop_index.proofs.Searches.{before_pads, divided_ascends, exactly, found, head_ascends, no_lower, wider}
 
 -- the cell of a higher number is no lower in a node
 cell_in_ascends : (n : StoredNode) (x y : ℕ) → x ≤ y → cell_in n x ≤ cell_in n y
 cell_in_ascends n x y le = let d = divided_ascends (x - n.first) (y - n.first) n.shift (omega arith) in omega arith
 
 -- how many steps of 2 ^ s a number is above a multiple of 2 ^ s, by their first bits
-pub steps_by_head : (x first s : ℕ) → 64 ≤ s → first % 2 ^ s ≡ 0 → (x / 2 ^ 64 - first / 2 ^ 64) / 2 ^ (s - 64) ≡ (x - first) / 2 ^ s
+pub steps_by_head : (x first s : ℕ) → 64 ≤ s → first % 2 ^ s ≡ 0 → (x - first) / 2 ^ s ≡ (x / 2 ^ 64 - first / 2 ^ 64) / 2 ^ (s - 64)
 steps_by_head x first s more whole =
     let parts : 2 ^ s ≡ 2 ^ 64 * 2 ^ (s - 64) = subst (λ (k : ℕ). 2 ^ k ≡ 2 ^ 64 * 2 ^ (s - 64)) {x = 64 + (s - 64)} (omega arith) (pow-add 2 64 (s - 64)) in
     let low : first % 2 ^ 64 ≡ 0 = subst (λ (k : ℕ). first % 2 ^ k ≡ 0 → first % 2 ^ 64 ≡ 0) {x = s - 64 + 64} (omega arith) (λ e. let m = mod-pow-add first (s - 64) 64 in omega arith) whole in
     let heads : x / 2 ^ 64 - first / 2 ^ 64 ≡ (x - first) / 2 ^ 64 = omega arith in
-    ap (λ (k : ℕ). k / 2 ^ (s - 64)) heads ∙ (div-div-eq-div-mul (x - first) (2 ^ 64) (2 ^ (s - 64)) ∙ ap (λ (k : ℕ). (x - first) / k) (sym parts))
+    sym (ap (λ (k : ℕ). k / 2 ^ (s - 64)) heads ∙ (div-div-eq-div-mul (x - first) (2 ^ 64) (2 ^ (s - 64)) ∙ ap (λ (k : ℕ). (x - first) / k) (sym parts)))
 
 -- a cell with few ranges leads by their number
 pub few_lead : (nodes : List StoredNode) (rs : List HopRange) (end x before after : ℕ) → ArePadded rs end → x < end → length rs < 1073741824 → after ≤ before + 4 → IsBetween rs x before after → Leads nodes rs x before
 few_lead nodes rs end x before after p l few le b =
-    let w = b.below.within in
-    let pads = before_pads rs end x before p l b.below in
+    let pads = before_pads rs end x before after p l b in
     record {
-      few = λ less. record { below = b.below; from = fewer_from rs x after (before + 4) le pads b.from };
+      few = λ less. wider rs x before after (before + 4) le pads b;
       hop = λ h. absurd (let l = h.0 in omega arith);
       within = λ more. absurd (omega arith);
       many = λ more d. absurd (omega arith);
@@ -48,7 +47,7 @@ module _ (nodes : List StoredNode) (n : StoredNode) (rs : List HopRange) where
   leads_more x e h = record {
     few = h.few;
     hop = h.hop;
-    within = λ more. let w = h.within more in let l : length (nodes ++ n ∷ []) ≡ length nodes + 1 = length-append nodes (n ∷ []) in omega arith;
+    within = λ more. let w = h.within more in omega (arith, length_push nodes n);
     many = λ more d. subst (λ (m : StoredNode). IsBetween rs x m.before m.after) (sym (get_or_append_left nodes (n ∷ []) d (e - 2147483648) (h.within more))) (h.many more d);
   }
 
@@ -56,7 +55,7 @@ module _ (nodes : List StoredNode) (n : StoredNode) (rs : List HopRange) where
   leads_to_it x e is b = record {
     few = λ less. absurd (omega arith);
     hop = λ h. absurd (let l = h.1 in omega arith);
-    within = λ more. let l : length (nodes ++ n ∷ []) ≡ length nodes + 1 = length-append nodes (n ∷ []) in omega arith;
+    within = λ more. omega (arith, length_push nodes n);
     many = λ more d. subst (λ (m : StoredNode). IsBetween rs x m.before m.after) (sym (get_or_push nodes n d (e - 2147483648) (omega arith))) b;
   }
 
@@ -81,7 +80,7 @@ module _ (nodes : List StoredNode) (n : StoredNode) (rs : List HopRange) where
 
     pub one_more_node : AreNodes rs end nodes cells → AreNodes rs end (nodes ++ n ∷ []) (cells ++ entries)
     one_more_node h k d l =
-        let s : length (nodes ++ n ∷ []) ≡ length nodes + 1 = length-append nodes (n ∷ []) in
+        let s = length_push nodes n in
         ⊎_elim
         (λ less. subst IsLeading (sym (get_or_append_left nodes (n ∷ []) d k less)) (old_leads (get_or nodes k d) (h k d less)))
         (λ more. subst IsLeading (sym (get_or_push nodes n d k (omega arith))) last_leads)
@@ -92,19 +91,15 @@ module _ (cell : ℕ → ℕ) (end : ℕ) (up : (x y : ℕ) → x ≤ y → y < 
   lower : (x y : ℕ) → x < end → cell x < cell y → x < y
   lower x y x_in less = ⊎_elim (λ is. is) (λ not. let u : cell y ≤ cell x = up y x not x_in in absurd (omega arith)) (cases_lt x y)
 
-  pub narrowed : (rs : List HopRange) (x low high before after : ℕ) → EndsBelow rs end (length rs) → x < end → IsBetween rs x low high → before ≤ length rs → after ≤ length rs
-      → ((k : ℕ) (d : HopRange) → low ≤ k → k < before → cell (get_or rs k d).last < cell x)
-      → ((k : ℕ) (d : HopRange) → after ≤ k → k < high → cell x < cell (get_or rs k d).last)
+  pub narrowed : (rs : List HopRange) (x low high before after : ℕ) → EndBelow end rs → x < end → IsBetween rs x low high → before ≤ after → after ≤ length rs
+      → ((k : ℕ) → low ≤ k → k < before → cell (range_at rs k).last < cell x)
+      → ((k : ℕ) → after ≤ k → k < high → cell x < cell (range_at rs k).last)
       → IsBetween rs x before after
-  narrowed rs x low high before after ends x_in b before_in after_in earlier later = record {
-    below = record {
-      within = before_in;
-      below = λ k d l. ⊎_elim (λ less. b.below.below k d less) (λ more. lower (get_or rs k d).last x (ends.below k d (omega arith)) (earlier k d more l)) (cases_lt k low);
-    };
-    from = record {
-      within = after_in;
-      from = λ k d le l. ⊎_elim (λ less. let u = lower x (get_or rs k d).last x_in (later k d le less) in omega arith) (λ more. b.from.from k d more l) (cases_lt k high);
-    };
+  narrowed rs x low high before after ends x_in b order within earlier later = record {
+    order = order;
+    within = within;
+    below = λ k l. ⊎_elim (λ less. b.below k less) (λ more. lower (range_at rs k).last x (ends k _ (omega arith)) (earlier k more l)) (cases_lt k low);
+    from = λ k le l. ⊎_elim (λ less. let u = lower x (range_at rs k).last x_in (later k le less) in omega arith) (λ more. b.from k more l) (cases_lt k high);
   }
 
 -- the cell of a higher number is no lower among those of all chunks
@@ -146,54 +141,58 @@ cell_by_ascends width (Some tops) are n x y le l =
     let head : head_of width y < 2 ^ 64 = (div-lt_iff_lt-mul {k = 2 ^ width} {x = y * 2 ^ 64} {y = 2 ^ 64} (pow_pos width)).1 (omega arith) in
     cell_ascends tops (are tops refl) (head_of width x) (head_of width y) (head_ascends width x y le) head
 
--- a cell that ends in the range at `place` at the latest, where no earlier range ends, has its hop
-pub one_hop : (width : ℕ) (tops : Option (List ℕ)) → ((ts : List ℕ) → tops ≡ Some ts → AreTops ts) → (n : StoredNode) (rs : List HopRange) → ArePadded rs (2 ^ width) → (place c : ℕ) (d : HopRange) → place < length rs
-    → ((get_or rs place d).last + 1 < 2 ^ width → c < cell_by width tops n ((get_or rs place d).last + 1)) → (x : ℕ) → x < 2 ^ width → cell_by width tops n x ≡ c → EndsBelow rs x place → hop_in rs x ≡ (get_or rs place d).hop
-one_hop width tops are n rs padded place c d place_in later x x_in is below =
-    let last : ℕ = (get_or rs place d).last in
-    let le : x ≤ last = ⊎_elim
-    (λ (less : last < x).
-    let u : cell_by width tops n (last + 1) ≤ cell_by width tops n x = cell_by_ascends width tops are n (last + 1) x (omega arith) x_in in
-    let b : c < cell_by width tops n (last + 1) = later (omega arith) in
-    absurd (omega arith))
-    (λ (more : x ≤ last). more)
-    (cases_lt last x) in
-    found rs place d x place_in below (ends_from rs x place d padded.ascending place_in le)
-
 -- entries lead on the numbers of the first c cells of a node, in which its ranges up to `place` end
 pub record AreLed (width : ℕ) (tops : Option (List ℕ)) (n : StoredNode) (rs : List HopRange) (nodes : List StoredNode) (c place : ℕ) (entries : List ℕ) : Type 0 where
   pub least : n.before ≤ place
   pub most : place ≤ n.after
-  pub earlier : (k : ℕ) (d : HopRange) → n.before ≤ k → k < place → cell_by width tops n (get_or rs k d).last < c
-  pub later : (k : ℕ) (d : HopRange) → place ≤ k → k < n.after → c ≤ cell_by width tops n (get_or rs k d).last
+  pub earlier : (k : ℕ) → n.before ≤ k → k < place → cell_by width tops n (range_at rs k).last < c
+  pub later : (k : ℕ) → place ≤ k → k < n.after → c ≤ cell_by width tops n (range_at rs k).last
   pub all : length entries ≡ c
   pub leads : (x : ℕ) → cell_by width tops n x < c → x < 2 ^ width → IsBetween rs x n.before n.after → Leads nodes rs x (get_or entries (cell_by width tops n x) 0)
 
-pub led_on : (width : ℕ) (tops : Option (List ℕ)) → ((ts : List ℕ) → tops ≡ Some ts → AreTops ts) → (n : StoredNode) (rs : List HopRange) → ArePadded rs (2 ^ width) → n.after ≤ length rs
-    → (nodes new : List StoredNode) (c place next e : ℕ) (entries : List ℕ) → AreLed width tops n rs nodes c place entries → place ≤ next → next ≤ n.after
-    → ((k : ℕ) (d : HopRange) → place ≤ k → k < next → cell_by width tops n (get_or rs k d).last ≤ c) → (next < n.after → (d : HopRange) → c < cell_by width tops n (get_or rs next d).last)
-    → ((x f : ℕ) → Leads nodes rs x f → Leads new rs x f) → ((x : ℕ) → x < 2 ^ width → cell_by width tops n x ≡ c → IsBetween rs x place next → Leads new rs x e) → AreLed width tops n rs new (c + 1) next (entries ++ e ∷ [])
-led_on width tops are n rs padded within nodes new c place next e entries i least most inside beyond kept leads =
-    let cell : ℕ → ℕ = cell_by width tops n in
-    let up : (x y : ℕ) → x ≤ y → y < 2 ^ width → cell x ≤ cell y = cell_by_ascends width tops are n in
-    let later : (k : ℕ) (d : HopRange) → next ≤ k → k < n.after → c + 1 ≤ cell (get_or rs k d).last = λ k d le l.
-    let b : c < cell (get_or rs next d).last = beyond (omega arith) d in
-    let a = up (get_or rs next d).last (get_or rs k d).last (padded.ascending next k d le (omega arith)) (padded.within.below k d (omega arith)) in
-    omega arith in
-    record {
-      least = let l = i.least in omega arith;
-      most = most;
-      earlier = λ k d b l. ⊎_elim
-          (λ less. let o : cell (get_or rs k d).last < c = i.earlier k d b less in omega arith)
-          (λ more. let o : cell (get_or rs k d).last ≤ c = inside k d more l in omega arith)
-          (cases_lt k place);
-      later = later;
-      all = let l : length (entries ++ e ∷ []) ≡ length entries + 1 = length-append entries (e ∷ []) in omega (arith, i.all);
-      leads = λ x l x_in b. ⊎_elim
-          (λ less. subst (λ (v : ℕ). Leads new rs x v) (sym (get_or_append_left entries (e ∷ []) 0 (cell x) (omega (arith, i.all)))) (kept x _ (i.leads x less x_in b)))
-          (λ more.
-          let is : cell x ≡ c = omega arith in
-          subst (λ (v : ℕ). Leads new rs x v) (sym (get_or_push entries e 0 (cell x) (omega (arith, i.all))))
-          (leads x x_in is (narrowed cell (2 ^ width) up rs x n.before n.after place next padded.within x_in b (omega arith) (omega arith) (λ k d m k_in. let o : cell (get_or rs k d).last < c = i.earlier k d m k_in in omega arith) (λ k d m k_in. let o = later k d m k_in in omega arith))))
-          (cases_lt (cell x) c);
-    }
+module _ (width : ℕ) (tops : Option (List ℕ)) (are : (ts : List ℕ) → tops ≡ Some ts → AreTops ts) (n : StoredNode) (rs : List HopRange) (padded : ArePadded rs (2 ^ width)) where
+  abbrev cell : ℕ → ℕ
+  cell x = cell_by width tops n x
+
+  up : (x y : ℕ) → x ≤ y → y < 2 ^ width → cell x ≤ cell y
+  up = cell_by_ascends width tops are n
+
+  -- a cell that ends in the range at `place` at the latest, where no earlier range ends, has its hop
+  pub one_hop : (place c x high : ℕ) → place < length rs → ((range_at rs place).last + 1 < 2 ^ width → c < cell ((range_at rs place).last + 1))
+      → x < 2 ^ width → cell x ≡ c → IsBetween rs x place high → hop_in rs x ≡ (range_at rs place).hop
+  one_hop place c x high place_in later x_in is b =
+      let last : ℕ = (range_at rs place).last in
+      found rs place x place_in (exactly rs padded.ascending x place high (λ _. ⊎_elim
+      (λ (less : last < x).
+      let u = up (last + 1) x (omega arith) x_in in
+      let l : c < cell (last + 1) = later (omega arith) in
+      absurd (omega arith))
+      (λ (more : x ≤ last). more)
+      (cases_lt last x)) b)
+
+  pub led_on : n.after ≤ length rs → (nodes new : List StoredNode) (c place next e : ℕ) (entries : List ℕ) → AreLed width tops n rs nodes c place entries → place ≤ next → next ≤ n.after
+      → ((k : ℕ) → place ≤ k → k < next → cell (range_at rs k).last ≤ c) → (next < n.after → c < cell (range_at rs next).last)
+      → ((x f : ℕ) → Leads nodes rs x f → Leads new rs x f) → ((x : ℕ) → x < 2 ^ width → cell x ≡ c → IsBetween rs x place next → Leads new rs x e) → AreLed width tops n rs new (c + 1) next (entries ++ e ∷ [])
+  led_on within nodes new c place next e entries i least most inside beyond kept leads =
+      let earlier : (k : ℕ) → n.before ≤ k → k < next → cell (range_at rs k).last < c + 1 = λ k b l. ⊎_elim
+      (λ less. let o : cell (range_at rs k).last < c = i.earlier k b less in omega arith)
+      (λ more. let o : cell (range_at rs k).last ≤ c = inside k more l in omega arith)
+      (cases_lt k place) in
+      let later : (k : ℕ) → next ≤ k → k < n.after → c + 1 ≤ cell (range_at rs k).last = λ k le l.
+      let b : c < cell (range_at rs next).last = beyond (omega arith) in
+      let a = up (range_at rs next).last (range_at rs k).last (no_lower rs padded.ascending next k le (omega arith)) (padded.within k _ (omega arith)) in
+      omega arith in
+      record {
+        least = let l = i.least in omega arith;
+        most = most;
+        earlier = earlier;
+        later = later;
+        all = omega (arith, i.all, length_push entries e);
+        leads = λ x l x_in b. ⊎_elim
+            (λ less. subst (λ (v : ℕ). Leads new rs x v) (sym (get_or_append_left entries (e ∷ []) 0 (cell x) (omega (arith, i.all)))) (kept x _ (i.leads x less x_in b)))
+            (λ more.
+            let is : cell x ≡ c = omega arith in
+            subst (λ (v : ℕ). Leads new rs x v) (sym (get_or_push entries e 0 (cell x) (omega (arith, i.all))))
+            (leads x x_in is (narrowed cell (2 ^ width) up rs x n.before n.after place next padded.within x_in b least (omega arith) (λ k m k_in. let o = i.earlier k m k_in in omega arith) (λ k m k_in. let o = later k m k_in in omega arith))))
+            (cases_lt (cell x) c);
+      }

@@ -1,9 +1,9 @@
 -- Nodes, which divide cells again, and the entries of cells.
-use Rattle.std.specs.Prelude.{◌≡◌, ◌==◌, ℕ, ◌+◌, ◌-◌, ◌/◌, ◌%◌, ◌^◌, ◌<◌, ◌≤◌, ◌⊎◌, if◌then◌else◌, List, Option, Some, None, length, min, slice_index, slice_index_or}
+use Rattle.std.specs.Prelude.{◌≡◌, ◌==◌, ℕ, ◌+◌, ◌-◌, ◌/◌, ◌%◌, ◌^◌, ◌<◌, ◌≤◌, if◌then◌else◌, List, Option, Some, None, length, min, slice_index, slice_index_or}
 use Rattle.ipnet_addr.specs.Addresses.{Address, Family, Ipv4, Ipv6}
-use Rattle.hop_index.specs.Indexes.{Index}
+use Rattle.hop_index.specs.Indexes.{Index, ranges_of}
 use Rattle.hop_index.specs.Ranges.{HopRange, hop_in}
-use Rattle.hop_index.specs.InnerRanges.{EndsBelow, EndsFrom, cell_of, head_of}
+use Rattle.hop_index.specs.InnerRanges.{IsBetween, cell_of, head_of}
 
 -- a cell in which the ranges from `before` to `after` end, divided into `last` + 1 cells of 2 ^ `shift` numbers; the entry of the first one is at `place`
 pub record StoredNode : Type 0 where
@@ -22,11 +22,6 @@ cell_in n x = min n.last ((x - n.first) / 2 ^ n.shift)
 abbrev pub cell_by : ℕ → Option (List ℕ) → StoredNode → ℕ → ℕ
 cell_by width None n x = cell_in n x
 cell_by width (Some tops) n x = cell_of tops (head_of width x)
-
--- at least `low` and at most `high` ranges end below x
-pub record IsBetween (rs : List HopRange) (x low high : ℕ) : Type 0 where
-  pub below : EndsBelow rs x low
-  pub from : EndsFrom rs x high
 
 -- an entry from 2 ^ 30 on that is below 2 ^ 31 has a hop
 abbrev pub HasHop : ℕ → Type 0
@@ -60,13 +55,13 @@ pub record Divided : Type 0 where
 abbrev pub index_of : Divided → Divided → Index
 index_of v4 v6 = record { v4 = v4.ranges; v6 = v6.ranges }
 
-abbrev pub divided_of : Family → Divided → Divided → Divided
-divided_of Ipv4 v4 v6 = v4
-divided_of Ipv6 v4 v6 = v6
+abbrev pub nodes_of : Family → Divided → Divided → List StoredNode
+nodes_of Ipv4 v4 v6 = v4.nodes
+nodes_of Ipv6 v4 v6 = v6.nodes
 
 -- the entry leads the address on among the ranges of its family
 abbrev pub LeadsAddress : Divided → Divided → Address → ℕ → Type 0
-LeadsAddress v4 v6 x entry = Leads (divided_of x.family v4 v6).nodes (divided_of x.family v4 v6).ranges x.number entry
+LeadsAddress v4 v6 x entry = Leads (nodes_of x.family v4 v6) (ranges_of x.family (index_of v4 v6)) x.number entry
 
 -- an entry for each address leads it on
 pub record AllLead {A : Type 0} (v4 v6 : Divided) (address : A → Address) (addrs : List A) (entries : List ℕ) : Type 0 where
@@ -78,11 +73,11 @@ pub record ArePlaces (end count : ℕ) (places : List ℕ) : Type 0 where
   pub most : count ≤ length places
   pub within : (k d : ℕ) → k < count → slice_index_or places k d < end
 
--- k is one of the places from index `from` to index `to`
-abbrev pub IsPlace : ℕ → ℕ → ℕ → List ℕ → Type 0
-IsPlace k from to places = (j : ℕ) × (from ≤ j) × (j < to) × ((d : ℕ) → slice_index_or places j d ≡ k)
+-- k is none of the places from index `from` to index `to`
+abbrev pub IsUnlisted : ℕ → ℕ → ℕ → List ℕ → Type 0
+IsUnlisted k from to places = (j : ℕ) → from ≤ j → j < to → slice_index places j ≡ k → ⊥
 
 -- each address has its hop, unless it is at one of the places from index `from` on
 pub record AreFound {A H : Type 0} (hop : A → H) (addrs : List A) (places : List ℕ) (from : ℕ) (hops : List H) : Type 0 where
   pub all : length hops ≡ length addrs
-  pub each : (k : ℕ) (a : A) (h : H) → k < length addrs → (slice_index_or hops k h ≡ hop (slice_index_or addrs k a)) ⊎ IsPlace k from (length places) places
+  pub each : (k : ℕ) (a : A) (h : H) → k < length addrs → IsUnlisted k from (length places) places → slice_index_or hops k h ≡ hop (slice_index_or addrs k a)

@@ -1,8 +1,8 @@
 //! Lookups in the ranges of a family.
-ghost use Rattle.std.specs.Prelude.{◌≡◌, ℕ, ◌^◌, ◌<◌, IfOk, length};
+ghost use Rattle.std.specs.Prelude.{◌≡◌, ℕ, ◌^◌, ◌<◌, IfOk};
 ghost use Rattle.hop_index.specs.Ranges.{hop_in};
 ghost use Rattle.hop_index.specs.InnerNodes.{Leads};
-ghost use Rattle.hop_index.specs.InnerRanges.{AreAscending, EndsBelow};
+ghost use Rattle.hop_index.specs.InnerRanges.{AreAscending, EndBelow};
 
 use crate::cells::{cell_at, tops_of};
 use crate::nodes::{HOPS, LEVELS, Node, Nodes, has_hop, hop_in_entry};
@@ -37,7 +37,7 @@ impl<N: Stored> Lookups<N> {
     /// The lookups of the ranges.
     pub(crate) fn new(alloc: Global, mut ranges: Ranges<N>) -> Result<Lookups<N>, AllocError>
         requires ascending { AreAscending ranges }
-        requires within { EndsBelow ranges (2 ^ N.width) (length ranges) }
+        requires within { EndBelow (2 ^ N.width) ranges }
         ensures { IfOk result (λ l. (x : ℕ) → hop_in l.ranges x ≡ hop_in ranges x) }
     {
         ranges.pad()?;

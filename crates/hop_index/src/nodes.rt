@@ -1,12 +1,12 @@
 //! Nodes: cells in which many ranges end, divided again.
-ghost use Rattle.std.specs.Prelude.{◌≡◌, ℕ, ◌+◌, ◌-◌, ◌^◌, ◌<◌, ◌≤◌, ◌↔◌, ◌++◌, [], ◌∷◌, List, Some, IfOk, IfSome, IsTrue, OnOk, length, option_copied, slice_index_or};
-ghost use Rattle.hop_index.specs.Ranges.{HopRange};
-ghost use Rattle.hop_index.specs.InnerRanges.{AreAscending, ArePadded, AreTops, EndsBelow, EndsFrom};
-ghost use Rattle.hop_index.specs.InnerNodes.{AreEntries, AreNodes, HasHop, IsBetween, Leads, StoredNode, cell_by, cell_in, hop_in_entry};
+ghost use Rattle.std.specs.Prelude.{◌≡◌, ℕ, ◌+◌, ◌-◌, ◌^◌, ◌<◌, ◌≤◌, ◌↔◌, ◌++◌, [], ◌∷◌, List, Some, IfOk, IfSome, IsTrue, OnOk, length, option_copied};
+ghost use Rattle.hop_index.specs.InnerRanges.{AreAscending, ArePadded, AreTops, IsBetween, range_at};
+ghost use Rattle.hop_index.specs.InnerNodes.{AreEntries, AreNodes, HasHop, Leads, StoredNode, cell_by, cell_in, hop_in_entry};
 
 use crate::cells::cell_at;
 use crate::ranges::Ranges;
 use crate::stored::{Stored, highest};
+use ipnet_addr::bits::cleared;
 use std::alloc::{AllocError, Global};
 use std::marker::Model;
 
@@ -99,7 +99,7 @@ impl<N: Stored> Node<N> {
         let last = ranges.last(after as usize - 1);
         let span = last.to_bits().saturating_sub(first.to_bits());
         let shift = shift_of(span, after - before).min(u32::from(N::width()) - 1);
-        let first = N::from_bits(first.to_bits() >> shift << shift);
+        let first = N::from_bits(cleared(first.to_bits(), shift as u8));
         let last = last.steps(first, shift, most);
         Node {
             before,
@@ -213,8 +213,8 @@ impl<N: Stored> Nodes<N> {
         requires within { node.now.after ≤ length self.now.ranges }
         ensures least { place ≤ result }
         ensures most { result ≤ node.now.after }
-        ensures inside { (k : ℕ) (d : HopRange) → place ≤ k → k < result → cell_by N.width (option_copied tops.entry) node.now (slice_index_or self.now.ranges k d).last ≤ cell }
-        ensures beyond { result < node.now.after → (d : HopRange) → cell < cell_by N.width (option_copied tops.entry) node.now (slice_index_or self.now.ranges result d).last }
+        ensures inside { (k : ℕ) → place ≤ k → k < result → cell_by N.width (option_copied tops.entry) node.now (range_at self.now.ranges k).last ≤ cell }
+        ensures beyond { result < node.now.after → cell < cell_by N.width (option_copied tops.entry) node.now (range_at self.now.ranges result).last }
     {
         while place < node.bounds().1
             && node.cell_by(tops, self.ranges.last(place as usize)) <= cell
@@ -250,7 +250,7 @@ impl<N: Stored> Nodes<N> {
     ) -> Option<u32>
         requires tops { (ts : List ℕ) → option_copied tops ≡ Some ts → AreTops ts }
         requires ranges { ArePadded self.now.ranges (2 ^ N.width) }
-        ensures { IfSome result (λ e. (nodes : List StoredNode) (x : ℕ) → x < 2 ^ N.width → cell_by N.width (option_copied tops.entry) node.now x ≡ cell → EndsBelow self.now.ranges x place → Leads nodes self.now.ranges x e) }
+        ensures { IfSome result (λ e. (nodes : List StoredNode) (x high : ℕ) → x < 2 ^ N.width → cell_by N.width (option_copied tops.entry) node.now x ≡ cell → IsBetween self.now.ranges x place high → Leads nodes self.now.ranges x e) }
     {
         if N::width() > 32 || place as usize >= self.ranges.len() {
             return None;
@@ -324,8 +324,7 @@ impl<N: Stored> Nodes<N> {
         requires ascending { AreAscending self.now.ranges }
         requires entry { Leads self.now.nodes.items self.now.ranges (N.number number) entry }
         requires no_hop { HasHop entry → ⊥ }
-        ensures below { EndsBelow self.now.ranges (N.number number) result }
-        ensures from { EndsFrom self.now.ranges (N.number number) result }
+        ensures { IsBetween self.now.ranges (N.number number) result result }
     {
         if entry < MARK {
             return self.ranges.among_four(entry, number);

@@ -109,6 +109,7 @@ impl Stored for u128 {
         (self >> 64) as u64
     }
 
+    #[tactic(auto, using(crate::proofs::Divisions::steps_by_head))]
     #[inline]
     fn steps(self, first: u128, shift: u32, most: u32) -> u32 {
         if shift >= 64 {

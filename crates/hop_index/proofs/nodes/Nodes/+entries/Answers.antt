@@ -1,7 +1,7 @@
 use Rattle.std.proofs.Common.{◌≡◌, ℕ, ◌^◌, ◌<◌, ◌≤◌, List, length, option_copied, refl, sym, ◌∙◌, arith}
 use Rattle.hop_index.specs.Ranges.{HopRange}
-use Rattle.hop_index.specs.InnerRanges.{ArePadded}
-use Rattle.hop_index.specs.InnerNodes.{AreNodes, IsBetween, Leads, StoredNode, cell_by}
+use Rattle.hop_index.specs.InnerRanges.{ArePadded, IsBetween}
+use Rattle.hop_index.specs.InnerNodes.{AreNodes, Leads, StoredNode, cell_by}
 use Rattle.hop_index.proofs.Divisions.{cell_by_ascends, few_lead, leads_more, led_on}
 use Rattle.hop_index.proofs.nodes.Nodes.+entries.Goals as goal
 use Rattle.hop_index.proofs.nodes.Nodes.+entries.Goals.{in-Some, in_default+then-next-place, in_default+else-next-place+then-levels-eq0+in_ok-entry, in_default+else-next-place+else-levels-eq0+in_ok-inside+in_ok-entry-2}
@@ -41,7 +41,7 @@ loop-cell-preserved g t c =
     let step : (c.match-hop_entry.self.ranges ≡ rs) × AreNodes rs end c.match-hop_entry.self.nodes.items c.match-hop_entry.self.cells.items
     × ((x e : ℕ) → Leads old rs x e → Leads c.match-hop_entry.self.nodes.items rs x e) × ((x : ℕ) → x < end → cell x ≡ c.loop-cell.cell → IsBetween rs x place next → Leads c.match-hop_entry.self.nodes.items rs x c.match-hop_entry.entry) =
     elim c.match-hop_entry.branch [
-      | in-Some w ↦ rw (w.self-is, w.entry-is) (refl, i.nodes, (λ x e h. h), (λ x l is b. (rw w.in-Some.is at c.hop_entry.ensures) old x l is b.below))
+      | in-Some w ↦ rw (w.self-is, w.entry-is) (refl, i.nodes, (λ x e h. h), (λ x l is b. (rw w.in-Some.is at c.hop_entry.ensures) old x next l is b))
       | in_default+then-next-place w ↦ rw (w.self-is, w.entry-is) (refl, i.nodes, (λ x e h. h), (λ x l is b. few_lead old rs end x place next padded l (rw i.ranges c.requires.few) (omega (arith, w.if-next-place.true)) b))
       | in_default+else-next-place+then-levels-eq0+in_ok-entry w ↦ let e = w.in_ok-entry.ensures in rw (w.self-is, w.entry-is) (e.ranges, rw e.ranges at e.nodes, e.kept, (λ x l is b. e.leads x b))
       | in_default+else-next-place+else-levels-eq0+in_ok-inside+in_ok-entry-2 w ↦
