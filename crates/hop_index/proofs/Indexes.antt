@@ -1,7 +1,6 @@
 -- The hops of an index of the ranges of a flat list.
-use Rattle.std.proofs.Common.{◌≡◌, ℕ, ◌^◌, ◌<◌, List, Option, Result, Ok, Err, IfOk}
+use Rattle.std.proofs.Common.{◌≡◌, ℕ, ◌^◌, ◌<◌, Option}
 use Rattle.ipnet_addr.specs.Addresses.{Address, Family, IsAddress, Ipv4, Ipv6, width}
-use Rattle.route_laws.specs.Flats.{Piece, IsFlat}
 use Rattle.hop_index.specs.Indexes.{Index, hop_of, ranges_of}
 use Rattle.hop_index.specs.Ranges.{hop_in}
 
@@ -15,10 +14,3 @@ index_hops h i v4 v6 x a = both x.family x.number a
     both : (f : Family) → HasHops h i f
     both Ipv4 = v4
     both Ipv6 = v6
-
--- the hops of the one function that has the flat list
-pub hops_of_flat : {E : Type 0} (r : Result Index E) (ps : List Piece) (h : Address → Option ℕ) → IsFlat h ps
-    → IfOk r (λ i. (k : Address → Option ℕ) → IsFlat k ps → (x : Address) → IsAddress x → hop_of i x ≡ k x)
-    → IfOk r (λ i. (x : Address) → IsAddress x → hop_of i x ≡ h x)
-hops_of_flat (Ok i) ps h flat all = all h flat
-hops_of_flat (Err e) ps h flat all = all

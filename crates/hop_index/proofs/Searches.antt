@@ -5,7 +5,7 @@ use Rattle.std.proofs.lemmas.Bool.Decides.{nat_tests}
 use Rattle.std.proofs.lemmas.Nat.{le-div, pow_pos}
 use Rattle.std.proofs.Math.Nat.{div-mul-le_self, pow-le-pow_right}
 use Rattle.std.proofs.lemmas.List.{append-nil, get_or_push, length_push}
-use Rattle.std.proofs.lemmas.List.Elements.{All-cons, All-from_get_or, All-nil, All-tail, All-weaker}
+use Rattle.std.proofs.lemmas.List.Elements.{All-cons, All-nil, All-tail, All-weaker}
 use Rattle.std.proofs.lemmas.List.Quantifiers.{all_pairs_push}
 use Rattle.hop_index.specs.Ranges.{HopRange, hop_in}
 use Rattle.hop_index.specs.InnerRanges.{AreAscending, ArePadded, EndBelow, IsBetween, head_of, range_at}
@@ -31,9 +31,6 @@ module _ (rs : List HopRange) (up : AreAscending rs) where
         below = b.below;
         from = λ k more k_in. ⊎_elim (λ less. let a = no_lower low k more k_in in let h = f less in omega arith) (λ le. b.from k (omega arith) k_in) (cases_lt low high);
       }
-
-  pub end_below : (x m : ℕ) → m + 1 ≡ length rs → (range_at rs m).last < x → EndBelow x rs
-  end_below x m is f = All-from_get_or (λ r. r.last < x) rs (record { last = 0; hop = None }) (λ k l. let a = no_lower k m (omega arith) (omega arith) in omega arith)
 
 -- a later bound
 pub below_later : (rs : List HopRange) (x y : ℕ) → x ≤ y → EndBelow x rs → EndBelow y rs

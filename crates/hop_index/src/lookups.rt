@@ -47,7 +47,11 @@ impl<N: Stored> Lookups<N> {
         }
         let tops = tops_of(alloc, &ranges)?;
         let all = Node::over(&ranges, 0, end as u32, 0);
-        let mut nodes = Nodes::new(alloc, ranges);
+        let mut nodes = Nodes {
+            ranges,
+            nodes: Vec::new(alloc),
+            cells: Vec::new(alloc),
+        };
         let cells = nodes.entries(alloc, &all, Some(&tops), LEVELS)?;
         Ok(Lookups { tops, cells, nodes })
     }

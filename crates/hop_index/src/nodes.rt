@@ -165,18 +165,6 @@ pub(crate) struct Nodes<N: Stored> {
 }
 
 impl<N: Stored> Nodes<N> {
-    /// Ranges without nodes. Does not allocate.
-    pub(crate) fn new(alloc: Global, ranges: Ranges<N>) -> Nodes<N>
-        ensures ranges { result.ranges ≡ ranges }
-        ensures nodes { AreNodes ranges (2 ^ N.width) result.nodes.items result.cells.items }
-    {
-        Nodes {
-            ranges,
-            nodes: Vec::new(alloc),
-            cells: Vec::new(alloc),
-        }
-    }
-
     /// The entry of a node that is added next.
     fn next_entry(&self) -> Result<u32, AllocError>
         ensures { IfOk result (λ e. e ≡ 2147483648 + length self.now.nodes.items) }

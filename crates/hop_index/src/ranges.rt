@@ -1,5 +1,5 @@
 //! The ranges of one hop, or of none, that the addresses of a family fall into.
-ghost use Rattle.std.specs.Prelude.{◌≡◌, ℕ, ◌+◌, ◌^◌, ◌<◌, ◌≤◌, ◌↔◌, ◌++◌, [], ◌∷◌, Some, None, IsTrue, OnOk, length, slice_index_or};
+ghost use Rattle.std.specs.Prelude.{◌≡◌, ℕ, ◌+◌, ◌^◌, ◌<◌, ◌≤◌, ◌++◌, [], ◌∷◌, Some, None, IsTrue, OnOk, length, slice_index_or};
 ghost use Rattle.hop_index.specs.Ranges.{hop_in};
 ghost use Rattle.hop_index.specs.InnerRanges.{AreAscending, ArePadded, EndBelow, IsBetween, head_of, range_at};
 
@@ -22,10 +22,7 @@ struct Range<F> {
 fn stored_at<T: Copy>(stored: &[T], place: usize, usual: T) -> T
     ensures { result ≡ slice_index_or stored.now place usual }
 {
-    match stored.get(place) {
-        Some(value) => *value,
-        None => usual,
-    }
+    stored.get(place).copied().unwrap_or(usual)
 }
 
 /// Stores the value for the range at this index, unless it is the usual one. The indexes before it without a value get the usual one.
@@ -144,15 +141,6 @@ impl<N: Stored> Ranges<N> {
         Ok(())
     }
 
-    /// Whether no range ends at the number or above. Ranges must ascend.
-    fn end_below(&self, number: N) -> bool
-        requires { AreAscending self.now }
-        ensures { IsTrue result ↔ EndBelow (N.number number) self.now }
-    {
-        let end = self.len();
-        end == 0 || self.last(end - 1).to_bits() < number.to_bits()
-    }
-
     /// The number of ranges that end below the number, if that is at least `low` and at most `low + 4`.
     #[inline]
     pub(crate) fn among_four(&self, low: u32, number: N) -> usize
@@ -201,14 +189,11 @@ impl<N: Stored> Ranges<N> {
         ensures hops { OnOk result ((x : ℕ) → hop_in self.new x ≡ hop_in self.old x) }
         ensures reached { OnOk result ((x : ℕ) → x < number → EndBelow x self.new → ⊥) }
     {
-        if number == 0 {
+        let end = self.len();
+        if number == 0 || end > 0 && self.last(end - 1).to_bits() == number - 1 {
             return Ok(());
         }
-        let before = N::from_bits(number - 1);
-        if !self.end_below(before) {
-            return Ok(());
-        }
-        self.push(before, None)?;
+        self.push(N::from_bits(number - 1), None)?;
         Ok(())
     }
 
