@@ -5,9 +5,9 @@ use Rattle.std.proofs.lemmas.List.{get_or_append_left, get_or-append-add, get_or
 use Rattle.std.proofs.lemmas.Nat.{mod-pow-add, pow-add, pow_pos}
 use Rattle.std.proofs.Math.Nat.{div-div-eq-div-mul, div-lt_iff_lt-mul, mul-le-mul_right, mul-lt-mul_of_pos_right}
 use Rattle.hop_index.specs.Ranges.{HopRange, hop_in}
-use Rattle.hop_index.specs.InnerRanges.{ArePadded, AreTops, EndBelow, IsBetween, cell_of, head_of, range_at}
+use Rattle.hop_index.specs.InnerRanges.{ArePadded, AreTops, IsBetween, cell_of, head_of, range_at}
 use Rattle.hop_index.specs.InnerNodes.{AreEntries, AreNodes, HasHop, Leads, StoredNode, cell_by, cell_in, hop_in_entry}
-use Rattle.hop_index.proofs.Searches.{before_pads, divided_ascends, exactly, found, head_ascends, no_lower, wider}
+use Rattle.hop_index.proofs.Searches.{before_pads, divided_ascends, found, head_ascends, lowered, raised, wider}
 
 -- the cell of a higher number is no lower in a node
 cell_in_ascends : (n : StoredNode) (x y : ℕ) → x ≤ y → cell_in n x ≤ cell_in n y
@@ -28,8 +28,7 @@ few_lead nodes rs end x before after p l few le b =
     record {
       few = λ less. wider rs x before after (before + 4) le pads b;
       hop = λ h. absurd (let l = h.0 in omega arith);
-      within = λ more. absurd (omega arith);
-      many = λ more d. absurd (omega arith);
+      many = λ more. absurd (omega arith);
     }
 
 -- the entry of a hop leads on the numbers that have it
@@ -37,8 +36,7 @@ pub hop_leads : (nodes : List StoredNode) (rs : List HopRange) (x e : ℕ) → H
 hop_leads nodes rs x e h is = record {
   few = λ less. absurd (let l = h.0 in omega arith);
   hop = λ has. is;
-  within = λ more. absurd (let l = h.1 in omega arith);
-  many = λ more d. absurd (let l = h.1 in omega arith);
+  many = λ more. absurd (let l = h.1 in omega arith);
 }
 
 -- one more node
@@ -47,16 +45,16 @@ module _ (nodes : List StoredNode) (n : StoredNode) (rs : List HopRange) where
   leads_more x e h = record {
     few = h.few;
     hop = h.hop;
-    within = λ more. let w = h.within more in omega (arith, length_push nodes n);
-    many = λ more d. subst (λ (m : StoredNode). IsBetween rs x m.before m.after) (sym (get_or_append_left nodes (n ∷ []) d (e - 2147483648) (h.within more))) (h.many more d);
+    many = λ more.
+        let w = (h.many more).0 in
+        (omega (arith, length_push nodes n), λ d. subst (λ (m : StoredNode). IsBetween rs x m.before m.after) (sym (get_or_append_left nodes (n ∷ []) d (e - 2147483648) w)) ((h.many more).1 d));
   }
 
   pub leads_to_it : (x e : ℕ) → e ≡ 2147483648 + length nodes → IsBetween rs x n.before n.after → Leads (nodes ++ n ∷ []) rs x e
   leads_to_it x e is b = record {
     few = λ less. absurd (omega arith);
     hop = λ h. absurd (let l = h.1 in omega arith);
-    within = λ more. omega (arith, length_push nodes n);
-    many = λ more d. subst (λ (m : StoredNode). IsBetween rs x m.before m.after) (sym (get_or_push nodes n d (e - 2147483648) (omega arith))) b;
+    many = λ more. (omega (arith, length_push nodes n), λ d. subst (λ (m : StoredNode). IsBetween rs x m.before m.after) (sym (get_or_push nodes n d (e - 2147483648) (omega arith))) b);
   }
 
   module _ (end : ℕ) (cells entries : List ℕ) (at : n.place ≡ length cells) (are : AreEntries (cell_in n) end (nodes ++ n ∷ []) rs n.before n.after entries) where
@@ -86,29 +84,10 @@ module _ (nodes : List StoredNode) (n : StoredNode) (rs : List HopRange) where
         (λ more. subst IsLeading (sym (get_or_push nodes n d k (omega arith))) last_leads)
         (cases_lt k (length nodes))
 
--- the ranges of one cell, where `cell` tells the cell of a number
-module _ (cell : ℕ → ℕ) (end : ℕ) (up : (x y : ℕ) → x ≤ y → y < end → cell x ≤ cell y) where
-  lower : (x y : ℕ) → x < end → cell x < cell y → x < y
-  lower x y x_in less = ⊎_elim (λ is. is) (λ not. let u : cell y ≤ cell x = up y x not x_in in absurd (omega arith)) (cases_lt x y)
-
-  pub narrowed : (rs : List HopRange) (x low high before after : ℕ) → EndBelow end rs → x < end → IsBetween rs x low high → before ≤ after → after ≤ length rs
-      → ((k : ℕ) → low ≤ k → k < before → cell (range_at rs k).last < cell x)
-      → ((k : ℕ) → after ≤ k → k < high → cell x < cell (range_at rs k).last)
-      → IsBetween rs x before after
-  narrowed rs x low high before after ends x_in b order within earlier later = record {
-    order = order;
-    within = within;
-    below = λ k l. ⊎_elim (λ less. b.below k less) (λ more. lower (range_at rs k).last x (ends k _ (omega arith)) (earlier k more l)) (cases_lt k low);
-    from = λ k le l. ⊎_elim (λ less. let u = lower x (range_at rs k).last x_in (later k le less) in omega arith) (λ more. b.from k more l) (cases_lt k high);
-  }
-
 -- the cell of a higher number is no lower among those of all chunks
 module _ (tops : List ℕ) (are : AreTops tops) where
   later_top : (c d : ℕ) → c ≤ d → d < length tops → get_or tops c 0 ≤ get_or tops d 0
-  later_top c d le l = ⊎_elim
-      (λ less. let r : get_or tops c 0 < get_or tops d 0 = are.rising c d 0 less l in omega arith)
-      (λ more. let same : c ≡ d = omega arith in subst (λ (m : ℕ). get_or tops c 0 ≤ get_or tops m 0) same (omega arith))
-      (cases_lt c d)
+  later_top c d le l = grind (arith, are.rising c d 0)
 
   before_next : (h : ℕ) → h < 2 ^ 64 → cell_of tops h < get_or tops (h / 2 ^ 48 + 1) 0
   before_next h l =
@@ -141,58 +120,42 @@ cell_by_ascends width (Some tops) are n x y le l =
     let head : head_of width y < 2 ^ 64 = (div-lt_iff_lt-mul {k = 2 ^ width} {x = y * 2 ^ 64} {y = 2 ^ 64} (pow_pos width)).1 (omega arith) in
     cell_ascends tops (are tops refl) (head_of width x) (head_of width y) (head_ascends width x y le) head
 
--- entries lead on the numbers of the first c cells of a node, in which its ranges up to `place` end
+-- entries lead on the numbers of the first c cells of a node, and `place` of its ranges end below those of all other cells
 pub record AreLed (width : ℕ) (tops : Option (List ℕ)) (n : StoredNode) (rs : List HopRange) (nodes : List StoredNode) (c place : ℕ) (entries : List ℕ) : Type 0 where
   pub least : n.before ≤ place
   pub most : place ≤ n.after
-  pub earlier : (k : ℕ) → n.before ≤ k → k < place → cell_by width tops n (range_at rs k).last < c
-  pub later : (k : ℕ) → place ≤ k → k < n.after → c ≤ cell_by width tops n (range_at rs k).last
   pub all : length entries ≡ c
+  pub between : (x : ℕ) → c ≤ cell_by width tops n x → x < 2 ^ width → IsBetween rs x n.before n.after → IsBetween rs x place n.after
   pub leads : (x : ℕ) → cell_by width tops n x < c → x < 2 ^ width → IsBetween rs x n.before n.after → Leads nodes rs x (get_or entries (cell_by width tops n x) 0)
 
 module _ (width : ℕ) (tops : Option (List ℕ)) (are : (ts : List ℕ) → tops ≡ Some ts → AreTops ts) (n : StoredNode) (rs : List HopRange) (padded : ArePadded rs (2 ^ width)) where
   abbrev cell : ℕ → ℕ
   cell x = cell_by width tops n x
 
-  up : (x y : ℕ) → x ≤ y → y < 2 ^ width → cell x ≤ cell y
-  up = cell_by_ascends width tops are n
+  lower : (x y : ℕ) → x < 2 ^ width → cell x < cell y → x < y
+  lower x y x_in less = ⊎_elim (λ is. is) (λ not. let u : cell y ≤ cell x = cell_by_ascends width tops are n y x not x_in in absurd (omega arith)) (cases_lt x y)
 
   -- a cell that ends in the range at `place` at the latest, where no earlier range ends, has its hop
   pub one_hop : (place c x high : ℕ) → place < length rs → ((range_at rs place).last + 1 < 2 ^ width → c < cell ((range_at rs place).last + 1))
       → x < 2 ^ width → cell x ≡ c → IsBetween rs x place high → hop_in rs x ≡ (range_at rs place).hop
   one_hop place c x high place_in later x_in is b =
       let last : ℕ = (range_at rs place).last in
-      found rs place x place_in (exactly rs padded.ascending x place high (λ _. ⊎_elim
-      (λ (less : last < x).
-      let u = up (last + 1) x (omega arith) x_in in
-      let l : c < cell (last + 1) = later (omega arith) in
-      absurd (omega arith))
-      (λ (more : x ≤ last). more)
-      (cases_lt last x)) b)
+      let here : x ≤ last = ⊎_elim (λ less. let l = lower x (last + 1) x_in (rw is (later (omega arith))) in omega arith) (λ more. more) (cases_lt last x) in
+      found rs place x place_in (lowered rs padded.ascending x place high place (omega arith) b.order (λ _. here) b)
 
   pub led_on : n.after ≤ length rs → (nodes new : List StoredNode) (c place next e : ℕ) (entries : List ℕ) → AreLed width tops n rs nodes c place entries → place ≤ next → next ≤ n.after
       → ((k : ℕ) → place ≤ k → k < next → cell (range_at rs k).last ≤ c) → (next < n.after → c < cell (range_at rs next).last)
       → ((x f : ℕ) → Leads nodes rs x f → Leads new rs x f) → ((x : ℕ) → x < 2 ^ width → cell x ≡ c → IsBetween rs x place next → Leads new rs x e) → AreLed width tops n rs new (c + 1) next (entries ++ e ∷ [])
-  led_on within nodes new c place next e entries i least most inside beyond kept leads =
-      let earlier : (k : ℕ) → n.before ≤ k → k < next → cell (range_at rs k).last < c + 1 = λ k b l. ⊎_elim
-      (λ less. let o : cell (range_at rs k).last < c = i.earlier k b less in omega arith)
-      (λ more. let o : cell (range_at rs k).last ≤ c = inside k more l in omega arith)
-      (cases_lt k place) in
-      let later : (k : ℕ) → next ≤ k → k < n.after → c + 1 ≤ cell (range_at rs k).last = λ k le l.
-      let b : c < cell (range_at rs next).last = beyond (omega arith) in
-      let a = up (range_at rs next).last (range_at rs k).last (no_lower rs padded.ascending next k le (omega arith)) (padded.within k _ (omega arith)) in
-      omega arith in
-      record {
-        least = let l = i.least in omega arith;
-        most = most;
-        earlier = earlier;
-        later = later;
-        all = omega (arith, i.all, length_push entries e);
-        leads = λ x l x_in b. ⊎_elim
-            (λ less. subst (λ (v : ℕ). Leads new rs x v) (sym (get_or_append_left entries (e ∷ []) 0 (cell x) (omega (arith, i.all)))) (kept x _ (i.leads x less x_in b)))
-            (λ more.
-            let is : cell x ≡ c = omega arith in
-            subst (λ (v : ℕ). Leads new rs x v) (sym (get_or_push entries e 0 (cell x) (omega (arith, i.all))))
-            (leads x x_in is (narrowed cell (2 ^ width) up rs x n.before n.after place next padded.within x_in b least (omega arith) (λ k m k_in. let o = i.earlier k m k_in in omega arith) (λ k m k_in. let o = later k m k_in in omega arith))))
-            (cases_lt (cell x) c);
-      }
+  led_on within nodes new c place next e entries i least most inside beyond kept leads = record {
+    least = let l = i.least in omega arith;
+    most = most;
+    all = omega (arith, i.all, length_push entries e);
+    between = λ x c_in x_in b. raised rs x place n.after next most (λ k from to. lower _ x (padded.within k _ (omega arith)) (let o = inside k from to in omega arith)) (i.between x (omega arith) x_in b);
+    leads = λ x l x_in b. ⊎_elim
+        (λ less. subst (λ (v : ℕ). Leads new rs x v) (sym (get_or_append_left entries (e ∷ []) 0 (cell x) (omega (arith, i.all)))) (kept x _ (i.leads x less x_in b)))
+        (λ more.
+        let is : cell x ≡ c = omega arith in
+        subst (λ (v : ℕ). Leads new rs x v) (sym (get_or_push entries e 0 (cell x) (omega (arith, i.all))))
+        (leads x x_in is (lowered rs padded.ascending x place n.after next least most (λ less. let l = lower x (range_at rs next).last x_in (rw is (beyond less)) in omega arith) (i.between x more x_in b))))
+        (cases_lt (cell x) c);
+  }

@@ -1,5 +1,5 @@
 -- How many of ascending ranges end below a number, and its hop.
-use Rattle.std.proofs.Common.{◌≡◌, ℕ, zero, suc, ◌+◌, ◌-◌, ◌*◌, ◌/◌, ◌^◌, ◌<◌, ◌≤◌, ⊎_elim, Bool, true, false, cond, nat_le, List, [], ◌∷◌, ◌++◌, Option, Some, None, length, refl, sym, ap, ◌∙◌, subst, arith}
+use Rattle.std.proofs.Common.{◌≡◌, ℕ, zero, suc, ◌+◌, ◌-◌, ◌*◌, ◌/◌, ◌^◌, ◌<◌, ◌≤◌, ⊎_elim, Bool, true, false, cond, nat_le, List, [], ◌∷◌, ◌++◌, Option, Some, None, length, refl, sym, ap, ◌∙◌, arith}
 use Rattle.std.proofs.lemmas.Bool.{cases_lt}
 use Rattle.std.proofs.lemmas.Bool.Decides.{nat_tests}
 use Rattle.std.proofs.lemmas.Nat.{le-div, pow_pos}
@@ -10,27 +10,23 @@ use Rattle.std.proofs.lemmas.List.Quantifiers.{all_pairs_push}
 use Rattle.hop_index.specs.Ranges.{HopRange, hop_in}
 use Rattle.hop_index.specs.InnerRanges.{AreAscending, ArePadded, EndBelow, IsBetween, head_of, range_at}
 
--- where one of the ranges ends tells of those before it and after it
-module _ (rs : List HopRange) (up : AreAscending rs) where
-  pub no_lower : (j k : ℕ) → j ≤ k → k < length rs → (range_at rs j).last ≤ (range_at rs k).last
-  no_lower j k le l = ⊎_elim
-      (λ less. up j k (record { last = 0; hop = None }) less l)
-      (λ more. let same : j ≡ k = omega arith in subst (λ m. (range_at rs j).last ≤ (range_at rs m).last) same (omega arith))
-      (cases_lt j k)
+pub no_lower : (rs : List HopRange) → AreAscending rs → (j k : ℕ) → j ≤ k → k < length rs → (range_at rs j).last ≤ (range_at rs k).last
+no_lower rs up j k le l = grind (arith, up j k (record { last = 0; hop = None }))
 
-  pub raised : (x low high m : ℕ) → m < high → (range_at rs m).last < x → IsBetween rs x low high → IsBetween rs x (m + 1) high
-  raised x low high m l f b = record { order = omega arith; within = b.within; below = λ k less. let a = no_lower k m (omega arith) (omega arith) in omega arith; from = b.from }
+-- more at least, if the ranges up to there end below
+pub raised : (rs : List HopRange) (x low high more : ℕ) → more ≤ high → ((k : ℕ) → low ≤ k → k < more → (range_at rs k).last < x) → IsBetween rs x low high → IsBetween rs x more high
+raised rs x low high more le f b = record { order = le; within = b.within; below = λ k l. ⊎_elim (b.below k) (λ from. f k from l) (cases_lt k low); from = b.from }
 
-  pub exactly : (x low high : ℕ) → (low < high → x ≤ (range_at rs low).last) → IsBetween rs x low high → IsBetween rs x low low
-  exactly x low high f b =
-      let within = b.within in
-      let order = b.order in
-      record {
-        order = omega arith;
-        within = omega arith;
-        below = b.below;
-        from = λ k more k_in. ⊎_elim (λ less. let a = no_lower low k more k_in in let h = f less in omega arith) (λ le. b.from k (omega arith) k_in) (cases_lt low high);
-      }
+-- fewer at most, if the range there doesn't end below
+pub lowered : (rs : List HopRange) → AreAscending rs → (x low high fewer : ℕ) → low ≤ fewer → fewer ≤ high → (fewer < high → x ≤ (range_at rs fewer).last) → IsBetween rs x low high → IsBetween rs x low fewer
+lowered rs up x low high fewer order le f b =
+    let within = b.within in
+    record {
+      order = order;
+      within = omega arith;
+      below = b.below;
+      from = λ k from k_in. ⊎_elim (λ less. let a = no_lower rs up fewer k from k_in in let h = f less in omega arith) (λ all. b.from k (omega arith) k_in) (cases_lt fewer high);
+    }
 
 -- a later bound
 pub below_later : (rs : List HopRange) (x y : ℕ) → x ≤ y → EndBelow x rs → EndBelow y rs

@@ -35,8 +35,7 @@ hop_in_entry entry = if entry % 1073741824 == 1073741823 then None else Some (en
 pub record Leads (nodes : List StoredNode) (rs : List HopRange) (x entry : ℕ) : Type 0 where
   pub few : entry < 1073741824 → IsBetween rs x entry (entry + 4)
   pub hop : HasHop entry → hop_in rs x ≡ hop_in_entry entry
-  pub within : 2147483648 ≤ entry → entry - 2147483648 < length nodes
-  pub many : 2147483648 ≤ entry → (d : StoredNode) → IsBetween rs x (slice_index_or nodes (entry - 2147483648) d).before (slice_index_or nodes (entry - 2147483648) d).after
+  pub many : 2147483648 ≤ entry → (entry - 2147483648 < length nodes) × ((d : StoredNode) → IsBetween rs x (slice_index_or nodes (entry - 2147483648) d).before (slice_index_or nodes (entry - 2147483648) d).after)
 
 -- entries of cells lead each number on that the ranges from `before` to `after` leave, by its cell
 pub record AreEntries (cell : ℕ → ℕ) (end : ℕ) (nodes : List StoredNode) (rs : List HopRange) (before after : ℕ) (entries : List ℕ) : Type 0 where
