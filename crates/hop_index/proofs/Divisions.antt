@@ -62,19 +62,14 @@ module _ (nodes : List StoredNode) (n : StoredNode) (rs : List HopRange) where
     IsLeading m = AreEntries (λ x. m.place + cell_in m x) end (nodes ++ n ∷ []) rs m.before m.after (cells ++ entries)
 
     last_leads : IsLeading n
-    last_leads = record {
-      within = λ x l. let w = are.within x l in let s : length (cells ++ entries) ≡ length cells + length entries = length-append cells entries in omega arith;
-      leads = λ x l b.
-          let e : get_or (cells ++ entries) (length cells + cell_in n x) 0 ≡ get_or entries (cell_in n x) 0 = get_or-append-add cells entries (cell_in n x) 0 in
-          subst (λ (p : ℕ). Leads (nodes ++ n ∷ []) rs x (get_or (cells ++ entries) (p + cell_in n x) 0)) (sym at)
-          (subst (λ (k : ℕ). Leads (nodes ++ n ∷ []) rs x k) (sym e) (are.leads x l b));
-    }
+    last_leads x l =
+        let w = (are x l).0 in
+        (omega (arith, length-append cells entries), λ b. subst (λ (p : ℕ). Leads (nodes ++ n ∷ []) rs x (get_or (cells ++ entries) (p + cell_in n x) 0)) (sym at) (rw (get_or-append-add cells entries (cell_in n x) 0) ((are x l).1 b)))
 
     old_leads : (m : StoredNode) → AreEntries (λ x. m.place + cell_in m x) end nodes rs m.before m.after cells → IsLeading m
-    old_leads m h = record {
-      within = λ x l. let w = h.within x l in let s : length (cells ++ entries) ≡ length cells + length entries = length-append cells entries in omega arith;
-      leads = λ x l b. subst (λ (e : ℕ). Leads (nodes ++ n ∷ []) rs x e) (sym (get_or_append_left cells entries 0 (m.place + cell_in m x) (h.within x l))) (leads_more x _ (h.leads x l b));
-    }
+    old_leads m h x l =
+        let w = (h x l).0 in
+        (omega (arith, length-append cells entries), λ b. rw (get_or_append_left cells entries 0 (m.place + cell_in m x) w) (leads_more x _ ((h x l).1 b)))
 
     pub one_more_node : AreNodes rs end nodes cells → AreNodes rs end (nodes ++ n ∷ []) (cells ++ entries)
     one_more_node h k d l =

@@ -38,9 +38,8 @@ pub record Leads (nodes : List StoredNode) (rs : List HopRange) (x entry : ℕ) 
   pub many : 2147483648 ≤ entry → (entry - 2147483648 < length nodes) × ((d : StoredNode) → IsBetween rs x (slice_index_or nodes (entry - 2147483648) d).before (slice_index_or nodes (entry - 2147483648) d).after)
 
 -- entries of cells lead each number on that the ranges from `before` to `after` leave, by its cell
-pub record AreEntries (cell : ℕ → ℕ) (end : ℕ) (nodes : List StoredNode) (rs : List HopRange) (before after : ℕ) (entries : List ℕ) : Type 0 where
-  pub within : (x : ℕ) → x < end → cell x < length entries
-  pub leads : (x : ℕ) → x < end → IsBetween rs x before after → Leads nodes rs x (slice_index entries (cell x))
+abbrev pub AreEntries : (ℕ → ℕ) → ℕ → List StoredNode → List HopRange → ℕ → ℕ → List ℕ → Type 0
+AreEntries cell end nodes rs before after entries = (x : ℕ) → x < end → (cell x < length entries) × (IsBetween rs x before after → Leads nodes rs x (slice_index entries (cell x)))
 
 abbrev pub AreNodes : List HopRange → ℕ → List StoredNode → List ℕ → Type 0
 AreNodes rs end nodes cells = (k : ℕ) (d : StoredNode) → k < length nodes → AreEntries (λ x. (slice_index_or nodes k d).place + cell_in (slice_index_or nodes k d) x) end nodes rs (slice_index_or nodes k d).before (slice_index_or nodes k d).after cells

@@ -13,18 +13,12 @@ returns-clause-entries g t c =
     let within : (x : ℕ) → x < end → cell x < c.loop-cell.cell = λ x l.
     let u : cell x ≤ cell (g.N.Key.number c.highest.result) = cell_by_ascends g.N.Key.width (option_copied c.args.tops) c.requires.tops c.args.node.now x (g.N.Key.number c.highest.result) (omega (arith, c.highest.ensures)) (omega (arith, c.highest.ensures)) in
     omega (arith, c.cell_by-end.ensures.cell, c.loop-cell-test.false) in
-    rw (sym c.loop-cell.invariant.ranges) (record {
-      within = λ x l. let w = within x l in omega (arith, c.loop-cell.invariant.led.all);
-      leads = λ x l b. c.loop-cell.invariant.led.leads x (within x l) l b;
-    })
+    rw (sym c.loop-cell.invariant.ranges) (λ x l. let w = within x l in (omega (arith, c.loop-cell.invariant.led.all), c.loop-cell.invariant.led.leads x w l))
 
 pub add-requires-clause-entries : goal.add-requires-clause-entries
 add-requires-clause-entries g t c = λ d before after.
     let e = c.in_ok-inside.ensures in
-    rw (e.ranges, c.as_slice.ensures.value) (record {
-      within = e.entries.within;
-      leads = λ x l b. leads_more c.entries.new.self.nodes.items d c.loop-cell.self.ranges x _ (e.entries.leads x l b);
-    })
+    rw (e.ranges, c.as_slice.ensures.value) (λ x l. ((e.entries x l).0, λ b. leads_more c.entries.new.self.nodes.items d c.loop-cell.self.ranges x _ ((e.entries x l).1 b)))
 
 pub loop-cell-preserved : goal.loop-cell-preserved
 loop-cell-preserved g t c =
