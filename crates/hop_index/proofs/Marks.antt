@@ -1,5 +1,6 @@
 -- Stored ranges, with what is stored for a few of them, as ranges of hops.
-use Rattle.std.proofs.Common.{◌≡◌, ◌==◌, ◌&&◌, not, ℕ, zero, suc, ◌<◌, Bool, true, false, cond, List, [], ◌∷◌, ◌++◌, Option, Some, None, unwrap_or, length, get_or, refl, sym, ap, ◌∙◌, arith}
+use Rattle.std.proofs.Common.{◌≡◌, ◌==◌, ℕ, zero, suc, ◌<◌, cond, List, [], ◌∷◌, ◌++◌, Option, Some, None, unwrap_or, length, get_or, refl, sym, ap, ◌∙◌, arith}
+use Rattle.std.proofs.Math.Bool.{and-not_self}
 use Rattle.std.specs.Option.{option_eq}
 use Rattle.hop_index.specs.InnerRanges.{hop_of_mark, map_at}
 
@@ -25,8 +26,4 @@ module _ {A B : Type 0} where
 -- a hop as it is stored, with its mark
 pub stored_hop : (o : Option ℕ) → hop_of_mark (unwrap_or o 4294967295) (option_eq (λ (a b : ℕ). a == b) o (Some 4294967295)) ≡ o
 stored_hop None = refl
-stored_hop (Some k) = go (k == 4294967295)
-  where
-    go : (b : Bool) → cond (b && not b) None (Some k) ≡ Some k
-    go true = refl
-    go false = refl
+stored_hop (Some k) = ap (λ b. cond b None (Some k)) (and-not_self (k == 4294967295))

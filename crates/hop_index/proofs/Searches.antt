@@ -1,6 +1,6 @@
 -- How many of ascending ranges end below a number, and its hop.
-use Rattle.std.proofs.Common.{◌≡◌, ℕ, zero, suc, ◌+◌, ◌-◌, ◌*◌, ◌/◌, ◌^◌, ◌<◌, ◌≤◌, ⊎_elim, Bool, true, false, cond, nat_le, List, [], ◌∷◌, ◌++◌, Option, Some, None, length, refl, sym, ap, ◌∙◌, arith}
-use Rattle.std.proofs.lemmas.Bool.{cases_lt}
+use Rattle.std.proofs.Common.{◌≡◌, ℕ, zero, suc, ◌+◌, ◌-◌, ◌*◌, ◌/◌, ◌^◌, ◌<◌, ◌≤◌, ⊎_elim, true, false, cond, nat_le, List, [], ◌∷◌, ◌++◌, Option, None, length, refl, sym, ap, ◌∙◌, arith}
+use Rattle.std.proofs.lemmas.Bool.{cases_lt, cond_both}
 use Rattle.std.proofs.lemmas.Bool.Decides.{nat_tests}
 use Rattle.std.proofs.lemmas.Nat.{le-div, pow_pos}
 use Rattle.std.proofs.Math.Nat.{div-mul-le_self, pow-le-pow_right}
@@ -40,18 +40,19 @@ wider rs x low high more le within b = let o = b.order in record { order = omega
 pub before_pads : (rs : List HopRange) (end x low high : ℕ) → ArePadded rs end → x < end → IsBetween rs x low high → low + 4 ≤ length rs
 before_pads rs end x low high p le b = let f = b.below (length rs - 4) in let four = p.four in let pads = p.pads in grind arith
 
+-- the first range has the hop if it ends at x or above, and else counts for nothing
+module _ (r : HopRange) (rs : List HopRange) (x : ℕ) where
+  hit : x ≤ r.last → hop_in (r ∷ rs) x ≡ r.hop
+  hit le = let test : nat_le x r.last ≡ true = grind (arith, nat_tests) in ap (λ t. cond t r.hop (hop_in rs x)) test
+
+  missed : r.last < x → hop_in (r ∷ rs) x ≡ hop_in rs x
+  missed less = let test : nat_le x r.last ≡ false = grind (arith, nat_tests) in ap (λ t. cond t r.hop (hop_in rs x)) test
+
 -- the hop of the first range that ends at x or above
 pub found : (rs : List HopRange) (m x : ℕ) → m < length rs → IsBetween rs x m m → hop_in rs x ≡ (range_at rs m).hop
 found [] m x l b = absurd (omega arith)
-found (r ∷ rs) zero x l b =
-    let here : x ≤ r.last = b.from 0 (omega arith) l in
-    let test : nat_le x r.last ≡ true = grind (arith, nat_tests) in
-    ap (λ t. cond t r.hop (hop_in rs x)) test
-found (r ∷ rs) (suc m) x l b =
-    let here : r.last < x = b.below 0 (omega arith) in
-    let test : nat_le x r.last ≡ false = grind (arith, nat_tests) in
-    ap (λ t. cond t r.hop (hop_in rs x)) test
-    ∙ found rs m x (omega arith) (record { order = omega arith; within = omega arith; below = λ k e. b.below (suc k) (omega arith); from = λ k le k_in. b.from (suc k) (omega arith) (omega arith) })
+found (r ∷ rs) zero x l b = hit r rs x (b.from 0 (omega arith) l)
+found (r ∷ rs) (suc m) x l b = missed r rs x (b.below 0 (omega arith)) ∙ found rs m x (omega arith) (record { order = omega arith; within = omega arith; below = λ k e. b.below (suc k) (omega arith); from = λ k le k_in. b.from (suc k) (omega arith) (omega arith) })
 
 pub divided_ascends : (a b width : ℕ) → a ≤ b → a / 2 ^ width ≤ b / 2 ^ width
 divided_ascends a b width le = let m : a / 2 ^ width * 2 ^ width ≤ a = div-mul-le_self a (2 ^ width) in le-div (a / 2 ^ width) b (2 ^ width) (pow_pos width) (omega arith)
@@ -75,45 +76,35 @@ from_head width x y few le = ⊎_elim
     (cases_lt y x)
 
 -- more ranges after all that end below x
-pub past : (rs ss : List HopRange) (x : ℕ) → EndBelow x rs → hop_in (rs ++ ss) x ≡ hop_in ss x
+past : (rs ss : List HopRange) (x : ℕ) → EndBelow x rs → hop_in (rs ++ ss) x ≡ hop_in ss x
 past [] ss x b = refl
-past (r ∷ rs) ss x b =
-    let here : r.last < x = b 0 r (omega arith) in
-    let test : nat_le x r.last ≡ false = grind (arith, nat_tests) in
-    ap (λ t. cond t r.hop (hop_in (rs ++ ss) x)) test ∙ past rs ss x (All-tail (λ s. s.last < x) r rs b)
+past (r ∷ rs) ss x b = missed r (rs ++ ss) x (b 0 r (omega arith)) ∙ past rs ss x (All-tail (λ s. s.last < x) r rs b)
 
 -- more ranges after one that ends at x or above
-pub reached : (rs ss : List HopRange) (x : ℕ) → (EndBelow x rs → ⊥) → hop_in (rs ++ ss) x ≡ hop_in rs x
+reached : (rs ss : List HopRange) (x : ℕ) → (EndBelow x rs → ⊥) → hop_in (rs ++ ss) x ≡ hop_in rs x
 reached [] ss x n = absurd (n (All-nil (λ r. r.last < x)))
 reached (r ∷ rs) ss x n = ⊎_elim
     (λ (less : r.last < x). ap (λ o. cond (nat_le x r.last) r.hop o) (reached rs ss x (λ b. n (All-cons (λ s. s.last < x) r rs less b))))
-    (λ (more : x ≤ r.last).
-    let test : nat_le x r.last ≡ true = grind (arith, nat_tests) in
-    ap (λ t. cond t r.hop (hop_in (rs ++ ss) x)) test ∙ sym (ap (λ t. cond t r.hop (hop_in rs x)) test))
+    (λ more. hit r (rs ++ ss) x more ∙ sym (hit r rs x more))
     (cases_lt r.last x)
 
 -- one more range without a hop
 pub push_none : (rs : List HopRange) (y x : ℕ) → hop_in (rs ++ record { last = y; hop = None } ∷ []) x ≡ hop_in rs x
-push_none [] y x = go (nat_le x y)
-  where
-    go : (b : Bool) → cond {A = Option ℕ} b None None ≡ None
-    go true = refl
-    go false = refl
+push_none [] y x = cond_both (nat_le x y) None None (λ (o : Option ℕ). o ≡ None) (λ _. refl) (λ _. refl)
 push_none (r ∷ rs) y x = ap (λ o. cond (nat_le x r.last) r.hop o) (push_none rs y x)
 
 -- one more range with a hop, which begins after ranges that reach its first number
-module _ (rs : List HopRange) (first last k : ℕ) (below : EndBelow first rs) where
-  past_all : (x : ℕ) (b : Bool) → nat_le x last ≡ b → first ≤ x → hop_in (rs ++ record { last = last; hop = Some k } ∷ []) x ≡ cond b (Some k) None
-  past_all x b test le = past rs (record { last = last; hop = Some k } ∷ []) x (below_later rs first x le below) ∙ ap (λ t. cond t (Some k) None) test
+module _ (rs : List HopRange) (first : ℕ) (r : HopRange) (below : EndBelow first rs) where
+  pub push_inside : (x : ℕ) → first ≤ x → x ≤ r.last → hop_in (rs ++ r ∷ []) x ≡ r.hop
+  push_inside x from to = past rs (r ∷ []) x (below_later rs first x from below) ∙ hit r [] x to
 
-  pub push_inside : (x : ℕ) → first ≤ x → x ≤ last → hop_in (rs ++ record { last = last; hop = Some k } ∷ []) x ≡ Some k
-  push_inside x from to = past_all x true (grind (arith, nat_tests)) from
-
-  pub push_outside : ((x : ℕ) → x < first → EndBelow x rs → ⊥) → (x : ℕ) → (first ≤ x → x ≤ last → ⊥) → hop_in (rs ++ record { last = last; hop = Some k } ∷ []) x ≡ hop_in rs x
+  pub push_outside : ((x : ℕ) → x < first → EndBelow x rs → ⊥) → (x : ℕ) → (first ≤ x → x ≤ r.last → ⊥) → hop_in (rs ++ r ∷ []) x ≡ hop_in rs x
   push_outside to x out = ⊎_elim
-      (λ less. reached rs (record { last = last; hop = Some k } ∷ []) x (to x less))
-      (λ le. let more : last < x = ⊎_elim (λ l. l) (λ in_it. absurd (out le in_it)) (cases_lt last x) in
-      past_all x false (grind (arith, nat_tests)) le ∙ sym (ap (λ (ss : List HopRange). hop_in ss x) (sym (append-nil rs)) ∙ past rs [] x (below_later rs first x le below)))
+      (λ less. reached rs (r ∷ []) x (to x less))
+      (λ le.
+      let more : r.last < x = ⊎_elim (λ l. l) (λ in_it. absurd (out le in_it)) (cases_lt r.last x) in
+      let b = below_later rs first x le below in
+      past rs (r ∷ []) x b ∙ missed r [] x more ∙ sym (ap (λ (ss : List HopRange). hop_in ss x) (sym (append-nil rs)) ∙ past rs [] x b))
       (cases_lt x first)
 
 -- one more range that ends at the ends of the others or above

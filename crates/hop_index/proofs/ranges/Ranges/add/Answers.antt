@@ -18,6 +18,6 @@ returns g c =
       ascending = push_ascends rs r i.ascending below;
       below = All-push (λ s. s.last < c.args.last + 1) rs r below (omega arith);
       within = All-push (λ s. s.last < 2 ^ g.N.Key.width) rs r (below_later rs _ _ (omega arith) i.below) within;
-      inside = push_inside rs c.args.first c.args.last c.args.hop i.below;
-      outside = λ x out. push_outside rs c.args.first c.args.last c.args.hop i.below i.reached x out ∙ i.hops x;
+      inside = push_inside rs c.args.first r i.below;
+      outside = λ x out. push_outside rs c.args.first r i.below i.reached x out ∙ i.hops x;
     })
