@@ -62,28 +62,19 @@ module _ (nodes : List StoredNode) (n : StoredNode) (rs : List HopRange) where
     IsLeading m = AreEntries (λ x. m.place + cell_in m x) end (nodes ++ n ∷ []) rs m.before m.after (cells ++ entries)
 
     last_leads : IsLeading n
-    last_leads x l =
-        let w = (are x l).0 in
-        (omega (arith, length-append cells entries), λ b. subst (λ (p : ℕ). Leads (nodes ++ n ∷ []) rs x (get_or (cells ++ entries) (p + cell_in n x) 0)) (sym at) (rw (get_or-append-add cells entries (cell_in n x) 0) ((are x l).1 b)))
+    last_leads x l = (omega (arith, length-append cells entries, (are x l).0), λ b. subst (λ (p : ℕ). Leads (nodes ++ n ∷ []) rs x (get_or (cells ++ entries) (p + cell_in n x) 0)) (sym at) (rw (get_or-append-add cells entries (cell_in n x) 0) ((are x l).1 b)))
 
     old_leads : (m : StoredNode) → AreEntries (λ x. m.place + cell_in m x) end nodes rs m.before m.after cells → IsLeading m
-    old_leads m h x l =
-        let w = (h x l).0 in
-        (omega (arith, length-append cells entries), λ b. rw (get_or_append_left cells entries 0 (m.place + cell_in m x) w) (leads_more x _ ((h x l).1 b)))
+    old_leads m h x l = (omega (arith, length-append cells entries, (h x l).0), λ b. rw (get_or_append_left cells entries 0 (m.place + cell_in m x) (h x l).0) (leads_more x _ ((h x l).1 b)))
 
     pub one_more_node : AreNodes rs end nodes cells → AreNodes rs end (nodes ++ n ∷ []) (cells ++ entries)
-    one_more_node h k d l =
-        let s = length_push nodes n in
-        ⊎_elim
+    one_more_node h k d l = ⊎_elim
         (λ less. subst IsLeading (sym (get_or_append_left nodes (n ∷ []) d k less)) (old_leads (get_or nodes k d) (h k d less)))
-        (λ more. subst IsLeading (sym (get_or_push nodes n d k (omega arith))) last_leads)
+        (λ more. subst IsLeading (sym (get_or_push nodes n d k (omega (arith, length_push nodes n)))) last_leads)
         (cases_lt k (length nodes))
 
 -- the cell of a higher number is no lower among those of all chunks
 module _ (tops : List ℕ) (are : AreTops tops) where
-  later_top : (c d : ℕ) → c ≤ d → d < length tops → get_or tops c 0 ≤ get_or tops d 0
-  later_top c d le l = grind (arith, are.rising c d 0)
-
   before_next : (h : ℕ) → h < 2 ^ 64 → cell_of tops h < get_or tops (h / 2 ^ 48 + 1) 0
   before_next h l =
       let all = are.all in
@@ -98,15 +89,14 @@ module _ (tops : List ℕ) (are : AreTops tops) where
   cell_ascends h k le l = ⊎_elim
       (λ (less : h / 2 ^ 48 < k / 2 ^ 48).
       let all = are.all in
-      let t = later_top (h / 2 ^ 48 + 1) (k / 2 ^ 48) (omega arith) (omega arith) in
+      let t : get_or tops (h / 2 ^ 48 + 1) 0 ≤ get_or tops (k / 2 ^ 48) 0 = grind (arith, are.rising (h / 2 ^ 48 + 1) (k / 2 ^ 48) 0) in
       let c = before_next h (omega arith) in
       omega arith)
       (λ (more : k / 2 ^ 48 ≤ h / 2 ^ 48).
-      let same : h / 2 ^ 48 ≡ k / 2 ^ 48 = omega arith in
-      subst (λ (c : ℕ). cell_of tops h ≤ get_or tops c 0 + k % 2 ^ 48 / 2 ^ 16 * (get_or tops (c + 1) 0 - get_or tops c 0) / 2 ^ 32) same
-      (let n : ℕ = get_or tops (h / 2 ^ 48 + 1) 0 - get_or tops (h / 2 ^ 48) 0 in
+      let same : k / 2 ^ 48 ≡ h / 2 ^ 48 = omega arith in
+      let n : ℕ = get_or tops (h / 2 ^ 48 + 1) 0 - get_or tops (h / 2 ^ 48) 0 in
       let m : h % 2 ^ 48 / 2 ^ 16 * n ≤ k % 2 ^ 48 / 2 ^ 16 * n = mul-le-mul_right n (omega arith) in
-      omega arith))
+      rw same (omega arith))
       (cases_lt (h / 2 ^ 48) (k / 2 ^ 48))
 
 pub cell_by_ascends : (width : ℕ) (tops : Option (List ℕ)) → ((ts : List ℕ) → tops ≡ Some ts → AreTops ts) → (n : StoredNode) (x y : ℕ) → x ≤ y → y < 2 ^ width → cell_by width tops n x ≤ cell_by width tops n y

@@ -43,12 +43,9 @@ module _ (all left : List Piece) (run : HopRun) (is : BeginsWithRun all run left
   abbrev pieces : List Piece
   pieces = map as_piece is.blocks
 
-  -- a piece of the run has each of its addresses, and no other
+  -- a piece of the run has each of its addresses
   piece_of : (x : Address) → IsInRun run x → (b : Block) × In (as_piece b) pieces × HasAddress b x
   piece_of x i = let t = In-from_Any (λ b. HasAddress b x) is.blocks ((is.addresses x).1 i) in (t.0, map_In as_piece is.blocks t.0 t.1, t.2)
-
-  in_run : (p : Piece) → In p pieces → (x : Address) → HasAddress p.block x → IsInRun run x
-  in_run p i x has = let t = In-map as_piece is.blocks p i in (is.addresses x).0 (Any-from_In (λ b. HasAddress b x) is.blocks t.0 t.1 (subst (λ (q : Piece). HasAddress q.block x) t.2 has))
 
   -- fewer pieces are left
   pub fewer : length left < length all
@@ -57,13 +54,12 @@ module _ (all left : List Piece) (run : HopRun) (is : BeginsWithRun all run left
       let some = (Contains-from_In pieces (as_piece t.0) t.1).1 in
       omega (arith, some, ap (λ (qs : List Piece). length qs) is.pieces, length-append pieces left)
 
-  -- all pieces are those of the run and those that are left
-  member : (p : Piece) → In p pieces ⊎ In p left → In p all
-  member p i = subst (In p) (sym is.pieces) (⊎_elim (In-left p pieces left) (In-right p pieces left) i)
-
-  -- a number of one of them is in the run, or in a piece that is left
+  -- an address of a piece is in the run, or in a piece that is left
   run_or_left : (x : Address) (p : Piece) → In p all → HasAddress p.block x → IsInRun run x ⊎ ((q : Piece) × In q left × HasAddress q.block x)
-  run_or_left x p i has = ⊎_elim (λ j. inl (in_run p j x has)) (λ j. inr (p, j, has)) (In-cases p pieces left (subst (In p) is.pieces i))
+  run_or_left x p i has = ⊎_elim
+      (λ j. let t = In-map as_piece is.blocks p j in inl ((is.addresses x).0 (Any-from_In (λ b. HasAddress b x) is.blocks t.0 t.1 (subst (λ (q : Piece). HasAddress q.block x) t.2 has))))
+      (λ j. inr (p, j, has))
+      (In-cases p pieces left (subst (In p) is.pieces i))
 
 module _ (h : Address → Option ℕ) (ps : List Piece) (flat : IsFlat h ps) where
   pub begin : (f : Family) → Walked h ps f [] ps
@@ -96,7 +92,7 @@ module _ (h : Address → Option ℕ) (ps : List Piece) (flat : IsFlat h ps) whe
     left_rising = rising_back Sooner (pieces all left run is) left (subst (Rising Sooner) is.pieces w.rising)
 
     left_in : (p : Piece) → In p left → In p all
-    left_in p i = member all left run is p (inr i)
+    left_in p i = subst (In p) (sym is.pieces) (In-right p (pieces all left run is) left i)
 
     passed : (new : List HopRange) (n : ℕ) → n < 2 ^ width f → hop_in new n ≡ hop_in rs n → (IsInRun run (at f n) → ⊥) → IsPassed h f new left n
     passed new n l same not = ⊎_elim (λ e. inl (same ∙ e)) (λ t. ⊎_elim (λ i. absurd (not i)) (λ s. inr s) (run_or_left all left run is (at f n) t.0 t.1 t.2)) (w.hops n l)
@@ -117,7 +113,7 @@ module _ (h : Address → Option ℕ) (ps : List Piece) (flat : IsFlat h ps) whe
       here n from to = piece_of all left run is (at f n) (sym own, from, to)
 
       own_in : (b : Block) → In (as_piece all left run is b) (pieces all left run is) → In (as_piece all left run is b) all
-      own_in b i = member all left run is _ (inl i)
+      own_in b i = subst (In _) (sym is.pieces) (In-left _ (pieces all left run is) left i)
 
       pub ends_before : EndBelow (run_first run) rs
       ends_before = let t = here (run_first run) (omega arith) is.some in w.above _ (own_in t.0 t.1) (run_first run) t.2

@@ -44,8 +44,7 @@ run-preserved c =
       ipv6 = λ h flat. walk_on h _ flat _ _ _ given c.run.v6 Ipv6 (c.run.invariant.ipv6 h flat) refl c.add-in-V6.new.self a.ascending a.below a.within a.inside a.outside;
     }
 
-pub returns-clause-ipv4 : goal.returns-clause-ipv4
-returns-clause-ipv4 c = done _ _ c.requires.1 Ipv4 c.run.v4 c.run.flat c.in_default.ensures.0 c.run.invariant.ipv4
-
-pub returns-clause-ipv6 : goal.returns-clause-ipv6
-returns-clause-ipv6 c = done _ _ c.requires.1 Ipv6 c.run.v6 c.run.flat c.in_default.ensures.0 c.run.invariant.ipv6
+pub returns : goal.returns
+returns c =
+    let done_by = done _ _ c.requires.1 in
+    record { ipv4 = done_by Ipv4 c.run.v4 c.run.flat c.in_default.ensures.0 c.run.invariant.ipv4; ipv6 = done_by Ipv6 c.run.v6 c.run.flat c.in_default.ensures.0 c.run.invariant.ipv6 }

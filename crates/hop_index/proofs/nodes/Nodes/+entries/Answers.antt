@@ -1,4 +1,4 @@
-use Rattle.std.proofs.Common.{◌≡◌, ℕ, ◌^◌, ◌<◌, ◌≤◌, List, length, option_copied, refl, sym, ◌∙◌, arith}
+use Rattle.std.proofs.Common.{◌≡◌, ℕ, ◌^◌, ◌<◌, ◌≤◌, List, option_copied, refl, sym, ◌∙◌, arith}
 use Rattle.hop_index.specs.Ranges.{HopRange}
 use Rattle.hop_index.specs.InnerRanges.{ArePadded, IsBetween}
 use Rattle.hop_index.specs.InnerNodes.{AreNodes, Leads, StoredNode, cell_by}
@@ -10,10 +10,11 @@ pub returns-clause-entries : goal.returns-clause-entries
 returns-clause-entries g t c =
     let end : ℕ = 2 ^ g.N.Key.width in
     let cell : ℕ → ℕ = cell_by g.N.Key.width (option_copied c.args.tops) c.args.node.now in
-    let within : (x : ℕ) → x < end → cell x < c.loop-cell.cell = λ x l.
-    let u : cell x ≤ cell (g.N.Key.number c.highest.result) = cell_by_ascends g.N.Key.width (option_copied c.args.tops) c.requires.tops c.args.node.now x (g.N.Key.number c.highest.result) (omega (arith, c.highest.ensures)) (omega (arith, c.highest.ensures)) in
-    omega (arith, c.cell_by-end.ensures.cell, c.loop-cell-test.false) in
-    rw (sym c.loop-cell.invariant.ranges) (λ x l. let w = within x l in (omega (arith, c.loop-cell.invariant.led.all), c.loop-cell.invariant.led.leads x w l))
+    rw (sym c.loop-cell.invariant.ranges) (λ x l.
+    let top : ℕ = g.N.Key.number c.highest.result in
+    let u : cell x ≤ cell top = cell_by_ascends g.N.Key.width (option_copied c.args.tops) c.requires.tops c.args.node.now x top (omega (arith, c.highest.ensures)) (omega (arith, c.highest.ensures)) in
+    let w : cell x < c.loop-cell.cell = omega (arith, c.cell_by-end.ensures.cell, c.loop-cell-test.false) in
+    (omega (arith, c.loop-cell.invariant.led.all), c.loop-cell.invariant.led.leads x w l))
 
 pub add-requires-clause-entries : goal.add-requires-clause-entries
 add-requires-clause-entries g t c = λ d before after.
@@ -29,7 +30,6 @@ loop-cell-preserved g t c =
     let next : ℕ = c.after_cell-next.result in
     let i = c.loop-cell.invariant in
     let s = c.after_cell-next.ensures in
-    let within : c.args.node.now.after ≤ length rs = rw i.ranges c.requires.after in
     let padded : ArePadded rs end = rw i.ranges c.requires.ranges in
     let cell : ℕ → ℕ = cell_by g.N.Key.width (option_copied c.args.tops) c.args.node.now in
     let step : (c.match-hop_entry.self.ranges ≡ rs) × AreNodes rs end c.match-hop_entry.self.nodes.items c.match-hop_entry.self.cells.items
@@ -47,6 +47,6 @@ loop-cell-preserved g t c =
       ranges = i.ranges;
       nodes = step.1;
       kept = λ x e h. step.2 x e (i.kept x e h);
-      led = led_on g.N.Key.width (option_copied c.args.tops) c.requires.tops c.args.node.now rs padded within old c.match-hop_entry.self.nodes.items c.loop-cell.cell place next c.match-hop_entry.entry c.loop-cell.entries.items
+      led = led_on g.N.Key.width (option_copied c.args.tops) c.requires.tops c.args.node.now rs padded (rw i.ranges c.requires.after) old c.match-hop_entry.self.nodes.items c.loop-cell.cell place next c.match-hop_entry.entry c.loop-cell.entries.items
           i.led s.least s.most s.inside s.beyond step.2 step.3;
     })
