@@ -1,5 +1,5 @@
 -- Cells lead each number on to fewer ranges.
-use Rattle.std.proofs.Common.{◌≡◌, ℕ, ◌+◌, ◌-◌, ◌*◌, ◌/◌, ◌%◌, ◌^◌, ◌<◌, ◌≤◌, ⊎_elim, List, [], ◌∷◌, ◌++◌, Option, Some, None, length, length-append, get_or, refl, sym, ap, ◌∙◌, subst, arith}
+use Rattle.std.proofs.Common.{rules, ◌≡◌, ℕ, ◌+◌, ◌-◌, ◌*◌, ◌/◌, ◌%◌, ◌^◌, ◌<◌, ◌≤◌, ⊎_elim, List, [], ◌∷◌, ◌++◌, Option, Some, None, length, length-append, get_or, refl, sym, ap, ◌∙◌, subst, arith}
 use Rattle.std.proofs.lemmas.Bool.{cases_lt}
 use Rattle.std.proofs.lemmas.List.{get_or_append_left, get_or-append-add, get_or_push, length_push}
 use Rattle.std.proofs.lemmas.Nat.{mod-pow-add, pow-add, pow_pos}
@@ -25,37 +25,25 @@ steps_by_head x first s more whole =
 pub few_lead : (nodes : List StoredNode) (rs : List HopRange) (end x before after : ℕ) → ArePadded rs end → x < end → length rs < 1073741824 → after ≤ before + 4 → IsBetween rs x before after → Leads nodes rs x before
 few_lead nodes rs end x before after p l few le b =
     let pads = before_pads rs end x before after p l b in
-    record {
-      few = λ less. wider rs x before after (before + 4) le pads b;
-      hop = λ h. absurd (let l = h.0 in omega arith);
-      many = λ more. absurd (omega arith);
-    }
+    let w = wider rs x before after (before + 4) le pads b in
+    search rules
 
 -- the entry of a hop leads on the numbers that have it
 pub hop_leads : (nodes : List StoredNode) (rs : List HopRange) (x e : ℕ) → HasHop e → hop_in rs x ≡ hop_in_entry e → Leads nodes rs x e
-hop_leads nodes rs x e h is = record {
-  few = λ less. absurd (let l = h.0 in omega arith);
-  hop = λ has. is;
-  many = λ more. absurd (let l = h.1 in omega arith);
-}
+hop_leads nodes rs x e h is = search rules
 
 -- one more node
 module _ (nodes : List StoredNode) (n : StoredNode) (rs : List HopRange) where
   pub leads_more : (x e : ℕ) → Leads nodes rs x e → Leads (nodes ++ n ∷ []) rs x e
-  leads_more x e h = record {
-    few = h.few;
-    hop = h.hop;
-    many = λ more.
-        let w = (h.many more).0 in
-        (omega (arith, length_push nodes n), λ d. subst (λ (m : StoredNode). IsBetween rs x m.before m.after) (sym (get_or_append_left nodes (n ∷ []) d (e - 2147483648) w)) ((h.many more).1 d));
-  }
+  leads_more x e h =
+      let l = length_push nodes n in
+      search (rules, h.many, get_or_append_left)
 
   pub leads_to_it : (x e : ℕ) → e ≡ 2147483648 + length nodes → IsBetween rs x n.before n.after → Leads (nodes ++ n ∷ []) rs x e
-  leads_to_it x e is b = record {
-    few = λ less. absurd (omega arith);
-    hop = λ h. absurd (let l = h.1 in omega arith);
-    many = λ more. (omega (arith, length_push nodes n), λ d. subst (λ (m : StoredNode). IsBetween rs x m.before m.after) (sym (get_or_push nodes n d (e - 2147483648) (omega arith))) b);
-  }
+  leads_to_it x e is b =
+      let l = length_push nodes n in
+      let at : length nodes ≡ e - 2147483648 = omega arith in
+      search (rules, get_or_push)
 
   module _ (end : ℕ) (cells entries : List ℕ) (at : n.place ≡ length cells) (are : AreEntries (cell_in n) end (nodes ++ n ∷ []) rs n.before n.after entries) where
     abbrev IsLeading : StoredNode → Type 0
