@@ -1,5 +1,5 @@
 -- How many of ascending ranges end below a number, and its hop.
-use Rattle.std.proofs.Common.{◌≡◌, ℕ, zero, suc, ◌+◌, ◌-◌, ◌*◌, ◌/◌, ◌^◌, ◌<◌, ◌≤◌, ⊎_elim, true, false, cond, nat_le, List, [], ◌∷◌, ◌++◌, Option, None, length, refl, sym, ap, ◌∙◌, arith}
+use Rattle.std.proofs.Common.{rules, ◌≡◌, ℕ, zero, suc, ◌+◌, ◌-◌, ◌*◌, ◌/◌, ◌^◌, ◌<◌, ◌≤◌, ⊎_elim, true, false, cond, nat_le, List, [], ◌∷◌, ◌++◌, Option, None, length, refl, sym, ap, ◌∙◌, arith}
 use Rattle.std.proofs.lemmas.Bool.{cases_lt, cond_both}
 use Rattle.std.proofs.lemmas.Bool.Decides.{nat_tests}
 use Rattle.std.proofs.lemmas.Nat.{le-div, pow_pos}
@@ -21,12 +21,8 @@ raised rs x low high more le f b = record { order = le; within = b.within; below
 pub lowered : (rs : List HopRange) → AreAscending rs → (x low high fewer : ℕ) → low ≤ fewer → fewer ≤ high → (fewer < high → x ≤ (range_at rs fewer).last) → IsBetween rs x low high → IsBetween rs x low fewer
 lowered rs up x low high fewer order le f b =
     let within = b.within in
-    record {
-      order = order;
-      within = omega arith;
-      below = b.below;
-      from = λ k from k_in. ⊎_elim (λ less. let a = no_lower rs up fewer k from k_in in let h = f less in omega arith) (λ all. b.from k (omega arith) k_in) (cases_lt fewer high);
-    }
+    let later : (k : ℕ) → fewer ≤ k → k < length rs → x ≤ (range_at rs k).last = λ k from k_in. grind (arith, no_lower rs up fewer k, b.from k) in
+    search (rules, b.below, later)
 
 -- a later bound
 pub below_later : (rs : List HopRange) (x y : ℕ) → x ≤ y → EndBelow x rs → EndBelow y rs

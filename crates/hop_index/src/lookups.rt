@@ -5,7 +5,7 @@ ghost use Rattle.hop_index.specs.InnerNodes.{Leads};
 ghost use Rattle.hop_index.specs.InnerRanges.{AreAscending, EndBelow};
 
 use crate::cells::{cell_at, tops_of};
-use crate::nodes::{HOPS, LEVELS, Node, Nodes, has_hop, hop_in_entry};
+use crate::nodes::{HOPS, LEVELS, MARK, Node, Nodes, has_hop, hop_in_entry};
 use crate::ranges::Ranges;
 use crate::stored::Stored;
 use std::alloc::{AllocError, Global};
@@ -72,7 +72,11 @@ impl<N: Stored> Lookups<N> {
         requires entry { Leads self.now.nodes self.now.ranges (N.number number) entry }
         ensures { Leads self.now.nodes self.now.ranges (N.number number) result }
     {
-        self.nodes.inner_entry(entry, number)
+        if entry < MARK {
+            return entry;
+        }
+        let node = &self.nodes.nodes[(entry - MARK) as usize];
+        self.nodes.cells[node.place(number)]
     }
 
     /// The hop of the number, from its entry.

@@ -149,7 +149,7 @@ impl<N: Stored> Node<N> {
 
     /// The place of the entry of the cell of a number.
     #[inline]
-    fn place(&self, number: N) -> usize
+    pub(crate) fn place(&self, number: N) -> usize
         ensures { result ≡ self.now.place + cell_in self.now (N.number number) }
     {
         self.place as usize + self.cell(number) as usize
@@ -289,21 +289,6 @@ impl<N: Stored> Nodes<N> {
             place = next;
         }
         Ok(entries)
-    }
-
-    /// The entry of the number's cell of a node; if the entry is no node, the entry itself.
-    #[inline]
-    pub(crate) fn inner_entry(&self, entry: u32, number: N) -> u32
-        requires nodes { AreNodes self.now.ranges (2 ^ N.width) self.now.nodes.items self.now.cells.items }
-        requires number { N.number number < 2 ^ N.width }
-        requires entry { Leads self.now.nodes.items self.now.ranges (N.number number) entry }
-        ensures { Leads self.now.nodes.items self.now.ranges (N.number number) result }
-    {
-        if entry < MARK {
-            return entry;
-        }
-        let node = &self.nodes[(entry - MARK) as usize];
-        self.cells[node.place(number)]
     }
 
     /// The number of ranges that end below a number, from its entry, which has no hop.
