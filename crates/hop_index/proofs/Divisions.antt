@@ -7,7 +7,7 @@ use Rattle.std.proofs.Math.Nat.{div-div-eq-div-mul, div-lt_iff_lt-mul, mul-le-mu
 use Rattle.hop_index.specs.Ranges.{HopRange, hop_in}
 use Rattle.hop_index.specs.InnerRanges.{ArePadded, AreTops, IsBetween, cell_of, head_of, range_at}
 use Rattle.hop_index.specs.InnerNodes.{AreEntries, AreNodes, HasHop, Leads, StoredNode, cell_by, cell_in, hop_in_entry}
-use Rattle.hop_index.proofs.Searches.{before_pads, divided_ascends, found, head_ascends, lowered, raised, wider}
+use Rattle.hop_index.proofs.Searches.{before_pads, divided_ascends, found, head_ascends, lowered, raised}
 
 -- the cell of a higher number is no lower in a node
 cell_in_ascends : (n : StoredNode) (x y : ℕ) → x ≤ y → cell_in n x ≤ cell_in n y
@@ -25,8 +25,7 @@ steps_by_head x first s more whole =
 pub few_lead : (nodes : List StoredNode) (rs : List HopRange) (end x before after : ℕ) → ArePadded rs end → x < end → length rs < 1073741824 → after ≤ before + 4 → IsBetween rs x before after → Leads nodes rs x before
 few_lead nodes rs end x before after p l few le b =
     let pads = before_pads rs end x before after p l b in
-    let w = wider rs x before after (before + 4) le pads b in
-    search rules
+    search (rules, b.below, b.from)
 
 -- the entry of a hop leads on the numbers that have it
 pub hop_leads : (nodes : List StoredNode) (rs : List HopRange) (x e : ℕ) → HasHop e → hop_in rs x ≡ hop_in_entry e → Leads nodes rs x e
@@ -63,29 +62,23 @@ module _ (nodes : List StoredNode) (n : StoredNode) (rs : List HopRange) where
 
 -- the cell of a higher number is no lower among those of all chunks
 module _ (tops : List ℕ) (are : AreTops tops) where
-  before_next : (h : ℕ) → h < 2 ^ 64 → cell_of tops h < get_or tops (h / 2 ^ 48 + 1) 0
-  before_next h l =
+  cell_ascends : (h k : ℕ) → h ≤ k → k < 2 ^ 64 → cell_of tops h ≤ cell_of tops k
+  cell_ascends h k le l =
       let all = are.all in
       let c : ℕ = h / 2 ^ 48 in
       let part : ℕ = h % 2 ^ 48 / 2 ^ 16 in
       let n : ℕ = get_or tops (c + 1) 0 - get_or tops c 0 in
+      ⊎_elim
+      (λ (less : c < k / 2 ^ 48).
+      let t : get_or tops (c + 1) 0 ≤ get_or tops (k / 2 ^ 48) 0 = grind (arith, are.rising (c + 1) (k / 2 ^ 48) 0) in
       let some : get_or tops c 0 < get_or tops (c + 1) 0 = are.rising c (c + 1) 0 (omega arith) (omega arith) in
       let m : part * n < 2 ^ 32 * n = mul-lt-mul_of_pos_right (omega arith) (omega arith) in
-      omega arith
-
-  cell_ascends : (h k : ℕ) → h ≤ k → k < 2 ^ 64 → cell_of tops h ≤ cell_of tops k
-  cell_ascends h k le l = ⊎_elim
-      (λ (less : h / 2 ^ 48 < k / 2 ^ 48).
-      let all = are.all in
-      let t : get_or tops (h / 2 ^ 48 + 1) 0 ≤ get_or tops (k / 2 ^ 48) 0 = grind (arith, are.rising (h / 2 ^ 48 + 1) (k / 2 ^ 48) 0) in
-      let c = before_next h (omega arith) in
       omega arith)
-      (λ (more : k / 2 ^ 48 ≤ h / 2 ^ 48).
-      let same : k / 2 ^ 48 ≡ h / 2 ^ 48 = omega arith in
-      let n : ℕ = get_or tops (h / 2 ^ 48 + 1) 0 - get_or tops (h / 2 ^ 48) 0 in
-      let m : h % 2 ^ 48 / 2 ^ 16 * n ≤ k % 2 ^ 48 / 2 ^ 16 * n = mul-le-mul_right n (omega arith) in
+      (λ (more : k / 2 ^ 48 ≤ c).
+      let same : k / 2 ^ 48 ≡ c = omega arith in
+      let m : part * n ≤ k % 2 ^ 48 / 2 ^ 16 * n = mul-le-mul_right n (omega arith) in
       rw same (omega arith))
-      (cases_lt (h / 2 ^ 48) (k / 2 ^ 48))
+      (cases_lt c (k / 2 ^ 48))
 
 pub cell_by_ascends : (width : ℕ) (tops : Option (List ℕ)) → ((ts : List ℕ) → tops ≡ Some ts → AreTops ts) → (n : StoredNode) (x y : ℕ) → x ≤ y → y < 2 ^ width → cell_by width tops n x ≤ cell_by width tops n y
 cell_by_ascends width None are n x y le l = cell_in_ascends n x y le

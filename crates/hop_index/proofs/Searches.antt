@@ -28,10 +28,6 @@ lowered rs up x low high fewer order le f b =
 pub below_later : (rs : List HopRange) (x y : ℕ) → x ≤ y → EndBelow x rs → EndBelow y rs
 below_later rs x y le = All-weaker (λ r. r.last < x) (λ r. r.last < y) (λ r l. omega arith) rs
 
--- fewer at least, and more at most
-pub wider : (rs : List HopRange) (x low high more : ℕ) → high ≤ more → more ≤ length rs → IsBetween rs x low high → IsBetween rs x low more
-wider rs x low high more le within b = let o = b.order in record { order = omega arith; within = within; below = b.below; from = λ k l k_in. b.from k (omega arith) k_in }
-
 -- at least four ranges do not end below a number
 pub before_pads : (rs : List HopRange) (end x low high : ℕ) → ArePadded rs end → x < end → IsBetween rs x low high → low + 4 ≤ length rs
 before_pads rs end x low high p le b = let f = b.below (length rs - 4) in let four = p.four in let pads = p.pads in grind arith

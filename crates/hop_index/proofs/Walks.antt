@@ -1,5 +1,5 @@
 -- Ranges of the runs of a flat list that were passed.
-use Rattle.std.proofs.Common.{◌≡◌, ℕ, ◌+◌, ◌^◌, ◌<◌, ◌≤◌, ◌⊎◌, inl, inr, ⊎_elim, List, [], map, Option, Some, None, length, length-append, refl, sym, ap, ◌∙◌, subst, arith}
+use Rattle.std.proofs.Common.{rules, ◌≡◌, ℕ, ◌+◌, ◌^◌, ◌<◌, ◌≤◌, ◌⊎◌, inl, inr, ⊎_elim, List, [], map, Option, Some, None, length, length-append, refl, sym, ap, ◌∙◌, subst, arith}
 use Rattle.std.proofs.lemmas.Bool.{cases_lt}
 use Rattle.std.proofs.lemmas.List.Elements.{All-nil}
 use Rattle.ipnet_addr.specs.Addresses.{Address, Family, rank, width}
@@ -99,14 +99,9 @@ module _ (h : Address → Option ℕ) (ps : List Piece) (flat : IsFlat h ps) whe
 
     -- those of the other family stay
     pub walk_kept : (run_family run ≡ f → ⊥) → Walked h ps f rs left
-    walk_kept other = record {
-      ascending = w.ascending;
-      within = w.within;
-      members = λ p i. w.members p (left_in p i);
-      rising = left_rising;
-      above = λ p i. w.above p (left_in p i);
-      hops = λ n l. passed rs n l refl (λ i. other (sym i.0));
-    }
+    walk_kept other =
+        let hops : (n : ℕ) → n < 2 ^ width f → IsPassed h f rs left n = λ n l. passed rs n l refl (λ i. other (sym i.0)) in
+        search (rules, w.members, w.above, left_in, left_rising, hops)
 
     module _ (own : run_family run ≡ f) where
       here : (n : ℕ) → run_first run ≤ n → n ≤ run_last run → (b : Block) × In (as_piece all left run is b) (pieces all left run is) × HasAddress b (at f n)

@@ -1,4 +1,4 @@
-use Rattle.std.proofs.Common.{◌≡◌, ℕ, ◌+◌, ◌<◌, ◌≤◌, List, subst, arith}
+use Rattle.std.proofs.Common.{rules, ◌≡◌, ℕ, ◌+◌, ◌<◌, ◌≤◌, List, subst, arith}
 use Rattle.hop_index.specs.Ranges.{HopRange}
 use Rattle.hop_index.specs.InnerRanges.{head_of, range_at}
 use Rattle.hop_index.proofs.Searches.{below_by_head, from_head, head_ascends, lowered, no_lower, raised}
@@ -24,12 +24,9 @@ loop-step-preserved g c =
             from = λ more. absurd (omega arith);
           })
       | else-head w ↦
-          let from : head_of g.N.Key.width y ≤ head_of g.N.Key.width (range_at rs at).last = omega (arith, w.if-head.false, c.head.ensures, c.head-head.ensures.head) in
-          rw w.count-is (record {
-            most = omega (arith, i.most);
-            between = i.between;
-            from = λ more. grind (arith, i.from, i.most, from);
-          })
+          let here : head_of g.N.Key.width y ≤ head_of g.N.Key.width (range_at rs at).last = omega (arith, w.if-head.false, c.head.ensures, c.head-head.ensures.head) in
+          let from : count < at + 1 → head_of g.N.Key.width y ≤ head_of g.N.Key.width (range_at rs count).last = λ more. grind (arith, i.from, i.most, here) in
+          rw w.count-is (search (rules, from))
     ]
 
 pub returns-then-width-le64 : goal.returns-then-width-le64
