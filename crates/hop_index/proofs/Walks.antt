@@ -1,7 +1,6 @@
 -- Ranges of the runs of a flat list that were passed.
 use Rattle.std.proofs.Common.{rules, ◌≡◌, ℕ, ◌+◌, ◌^◌, ◌<◌, ◌≤◌, ◌⊎◌, inl, inr, ⊎_elim, List, [], map, Option, Some, None, length, length-append, refl, sym, ap, ◌∙◌, subst, arith}
 use Rattle.std.proofs.lemmas.Bool.{cases_lt}
-use Rattle.std.proofs.lemmas.List.Elements.{All-nil}
 use Rattle.ipnet_addr.specs.Addresses.{Address, Family, rank, width}
 use Rattle.ipnet_addr.proofs.Members.{In, In-cases, In-left, In-right}
 use Rattle.ipnet_addr.proofs.Ascending.{Any-from_In, Contains-from_In, In-from_Any, Rising, Rising-from_pairs}
@@ -63,14 +62,9 @@ module _ (all left : List Piece) (run : HopRun) (is : BeginsWithRun all run left
 
 module _ (h : Address → Option ℕ) (ps : List Piece) (flat : IsFlat h ps) where
   pub begin : (f : Family) → Walked h ps f [] ps
-  begin f = record {
-    ascending = λ j k d le l. absurd (omega arith);
-    within = All-nil _;
-    members = λ p i. i;
-    rising = Rising-from_pairs Sooner ps flat.ascending;
-    above = λ p i n has. All-nil _;
-    hops = λ n l. by_hop n l (h (at f n)) refl;
-  }
+  begin f =
+      let hops : (n : ℕ) → n < 2 ^ width f → IsPassed h f [] ps n = λ n l. by_hop n l (h (at f n)) refl in
+      search (rules, hops, Rising-from_pairs Sooner ps flat.ascending)
     where
       by_hop : (n : ℕ) → n < 2 ^ width f → (o : Option ℕ) → h (at f n) ≡ o → IsPassed h f [] ps n
       by_hop n l None e = inl (sym e)
@@ -116,24 +110,20 @@ module _ (h : Address → Option ℕ) (ps : List Piece) (flat : IsFlat h ps) whe
       pub walk_on : (new : List HopRange) → AreAscending new → EndBelow (run_last run + 1) new → EndBelow (2 ^ width f) new
           → ((n : ℕ) → run_first run ≤ n → n ≤ run_last run → hop_in new n ≡ Some (run_hop run))
           → ((n : ℕ) → (run_first run ≤ n → n ≤ run_last run → ⊥) → hop_in new n ≡ hop_in rs n) → Walked h ps f new left
-      walk_on new up below within inside outside = record {
-        ascending = up;
-        within = within;
-        members = λ p i. w.members p (left_in p i);
-        rising = left_rising;
-        above = λ p i n has.
-            let t = here (run_last run) is.some (omega arith) in
-            let sooner = rising_cross Sooner (pieces all left run is) left (subst (Rising Sooner) is.pieces w.rising) _ p t.1 i in
-            let l = sooner_below _ p (w.members _ (own_in t.0 t.1)) (w.members p (left_in p i)) sooner f (run_last run) n t.2 has in
-            below_later new (run_last run + 1) n (omega arith) below;
-        hops = λ n l. ⊎_elim
-            (λ less. other n l (λ from to. absurd (omega arith)))
-            (λ from. ⊎_elim
-            (λ more. other n l (λ also to. absurd (omega arith)))
-            (λ to. let t = here n from to in inl (inside n from to ∙ sym (tells h ps flat _ (w.members _ (own_in t.0 t.1)) (at f n) t.2)))
-            (cases_lt (run_last run) n))
-            (cases_lt n (run_first run));
-      }
+      walk_on new up below within inside outside =
+          let above : (p : Piece) → In p left → (n : ℕ) → HasAddress p.block (at f n) → EndBelow n new = λ p i n has.
+          let t = here (run_last run) is.some (omega arith) in
+          let sooner = rising_cross Sooner (pieces all left run is) left (subst (Rising Sooner) is.pieces w.rising) _ p t.1 i in
+          let l = sooner_below _ p (w.members _ (own_in t.0 t.1)) (w.members p (left_in p i)) sooner f (run_last run) n t.2 has in
+          below_later new (run_last run + 1) n (omega arith) below in
+          let hops : (n : ℕ) → n < 2 ^ width f → IsPassed h f new left n = λ n l. ⊎_elim
+          (λ less. other n l (λ from to. absurd (omega arith)))
+          (λ from. ⊎_elim
+          (λ more. other n l (λ also to. absurd (omega arith)))
+          (λ to. let t = here n from to in inl (inside n from to ∙ sym (tells h ps flat _ (w.members _ (own_in t.0 t.1)) (at f n) t.2)))
+          (cases_lt (run_last run) n))
+          (cases_lt n (run_first run)) in
+          search (rules, w.members, left_in, left_rising, above, hops)
         where
           other : (n : ℕ) → n < 2 ^ width f → (run_first run ≤ n → n ≤ run_last run → ⊥) → IsPassed h f new left n
           other n l not = passed new n l (outside n not) (λ i. not i.1 i.2)
