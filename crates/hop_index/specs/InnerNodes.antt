@@ -1,6 +1,6 @@
 -- Nodes, which divide cells again, and the entries of cells.
 use Rattle.std.specs.Prelude.{◌≡◌, ◌==◌, ℕ, ◌+◌, ◌-◌, ◌/◌, ◌%◌, ◌^◌, ◌<◌, ◌≤◌, if◌then◌else◌, List, Option, Some, None, length, min, slice_index, slice_index_or}
-use Rattle.ipnet_addr.specs.Addresses.{Address, Family, Ipv4, Ipv6}
+use Rattle.ipnet_addr.specs.Addresses.{Address, Family, Ipv4, Ipv6, width}
 use Rattle.hop_index.specs.Indexes.{Index, ranges_of}
 use Rattle.hop_index.specs.Ranges.{HopRange, hop_in}
 use Rattle.hop_index.specs.InnerRanges.{IsBetween, cell_of, head_of}
@@ -44,14 +44,19 @@ AreEntries cell end nodes rs before after entries = (x : ℕ) → x < end → (c
 abbrev pub AreNodes : List HopRange → ℕ → List StoredNode → List ℕ → Type 0
 AreNodes rs end nodes cells = (k : ℕ) (d : StoredNode) → k < length nodes → AreEntries (λ x. (slice_index_or nodes k d).place + cell_in (slice_index_or nodes k d) x) end nodes rs (slice_index_or nodes k d).before (slice_index_or nodes k d).after cells
 
--- ranges, and nodes that divide cells of them
+-- the first cells of the chunks, ranges, and nodes that divide cells of them
 pub record Divided : Type 0 where
+  pub tops : List ℕ
   pub ranges : List HopRange
   pub nodes : List StoredNode
 
 -- the ranges of both families
 abbrev pub index_of : Divided → Divided → Index
 index_of v4 v6 = record { v4 = v4.ranges; v6 = v6.ranges }
+
+abbrev pub tops_of : Family → Divided → Divided → List ℕ
+tops_of Ipv4 v4 v6 = v4.tops
+tops_of Ipv6 v4 v6 = v6.tops
 
 abbrev pub nodes_of : Family → Divided → Divided → List StoredNode
 nodes_of Ipv4 v4 v6 = v4.nodes
@@ -60,6 +65,10 @@ nodes_of Ipv6 v4 v6 = v6.nodes
 -- the entry leads the address on among the ranges of its family
 abbrev pub LeadsAddress : Divided → Divided → Address → ℕ → Type 0
 LeadsAddress v4 v6 x entry = Leads (nodes_of x.family v4 v6) (ranges_of x.family (index_of v4 v6)) x.number entry
+
+-- the cell of an address among those of its family
+abbrev pub cell_of_address : Divided → Divided → Address → ℕ
+cell_of_address v4 v6 x = cell_of (tops_of x.family v4 v6) (head_of (width x.family) x.number)
 
 -- an entry for each address leads it on
 pub record AllLead {A : Type 0} (v4 v6 : Divided) (address : A → Address) (addrs : List A) (entries : List ℕ) : Type 0 where

@@ -2,7 +2,7 @@
 ghost use Rattle.std.specs.Prelude.{◌≡◌, ℕ, ◌<◌, ◌≤◌, Option, length, map, slice_index, slice_index_or};
 ghost use Rattle.ipnet_addr.specs.Addresses.{Address, Ipv4, address_of};
 ghost use Rattle.hop_index.specs.Indexes.{hop_number, hop_of};
-ghost use Rattle.hop_index.specs.InnerNodes.{AllLead, AreFound, ArePlaces, HasHop, IsUnlisted, hop_in_entry, index_of};
+ghost use Rattle.hop_index.specs.InnerNodes.{AllLead, AreFound, ArePlaces, HasHop, IsUnlisted, cell_of_address, hop_in_entry, index_of};
 
 use crate::index::Sides;
 use crate::nodes::{LEVELS, MARK, has_hop, hop_in_entry};
@@ -73,13 +73,25 @@ impl FromHop for u64 {
     }
 }
 
-/// The first step: the entry of the cell of each address.
-fn enter<A: Addressed>(sides: &Sides, addrs: &[A], entries: &mut [u32])
-    requires { length entries.old ≡ length addrs.now }
+/// The first step: the cell of each address.
+fn locate<A: Addressed>(sides: &Sides, addrs: &[A], cells: &mut [usize])
+    requires { length cells.old ≡ length addrs.now }
+    ensures { (k : ℕ) (a : A) (c : ℕ) → k < length addrs.now → slice_index_or cells.new k c ≡ cell_of_address sides.now.v4 sides.now.v6 (A.address (slice_index_or addrs.now k a)) }
+{
+    for place in 0..addrs.len() {
+        cells[place] = sides.cell(addrs[place].addr());
+    }
+}
+
+/// The second step: the entry of each cell.
+fn enter<A: Addressed>(sides: &Sides, addrs: &[A], cells: &[usize], entries: &mut [u32])
+    requires all { length cells.now ≡ length addrs.now }
+    requires cells { (k : ℕ) (a : A) (c : ℕ) → k < length addrs.now → slice_index_or cells.now k c ≡ cell_of_address sides.now.v4 sides.now.v6 (A.address (slice_index_or addrs.now k a)) }
+    requires entries { length entries.old ≡ length addrs.now }
     ensures { AllLead sides.now.v4 sides.now.v6 A.address addrs.now entries.new }
 {
     for place in 0..addrs.len() {
-        entries[place] = sides.entry(addrs[place].addr());
+        entries[place] = sides.entry(cells[place], addrs[place].addr());
     }
 }
 
@@ -124,7 +136,7 @@ fn follow<A: Addressed>(sides: &Sides, addrs: &[A], entries: &mut [u32], places:
     }
 }
 
-/// The second step, level by level: the entry that nodes lead each address to. An entry that is no node stays so.
+/// The third step, level by level: the entry that nodes lead each address to. An entry that is no node stays so.
 fn lead<A: Addressed>(sides: &Sides, addrs: &[A], places: &mut [usize], entries: &mut [u32])
     requires places { length places.old ≡ length addrs.now }
     requires entries { AllLead sides.now.v4 sides.now.v6 A.address addrs.now entries.old }
@@ -165,7 +177,7 @@ fn list_others<A: Addressed>(addrs: &[A], entries: &[u32], places: &mut [usize])
     count
 }
 
-/// The third step: the hops of entries that have one. The others get any hop.
+/// The fourth step: the hops of entries that have one. The others get any hop.
 fn tell<H: FromHop>(entries: &[u32], hops: &mut [H])
     requires { length hops.old ≡ length entries.now }
     ensures { (k e : ℕ) (h : H) → k < length entries.now → slice_index_or hops.new k h ≡ H.of_hop (hop_in_entry (slice_index_or entries.now k e)) }
@@ -175,7 +187,7 @@ fn tell<H: FromHop>(entries: &[u32], hops: &mut [H])
     }
 }
 
-/// The fourth step: the hops of the addresses at these places, from their entries.
+/// The fifth step: the hops of the addresses at these places, from their entries.
 fn find<A: Addressed, H: FromHop>(
     sides: &Sides,
     addrs: &[A],
@@ -204,7 +216,8 @@ fn store<A: Addressed, H: FromHop>(sides: &Sides, addrs: &[A], hops: &mut [H])
     let mut entries = [0; GROUP];
     let places = &mut places[..addrs.len()];
     let entries = &mut entries[..addrs.len()];
-    enter(sides, addrs, entries);
+    locate(sides, addrs, places);
+    enter(sides, addrs, places, entries);
     lead(sides, addrs, places, entries);
     let count = list_others(addrs, entries, places);
     if count < addrs.len() {

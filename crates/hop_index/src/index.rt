@@ -6,7 +6,7 @@ ghost use Rattle.route_laws.specs.Networks.{routes_of};
 ghost use Rattle.route_laws.specs.Tables.{hop_at};
 ghost use Rattle.prefix_trie.specs.declared.refused.Refused.TheVariants.{Memory};
 ghost use Rattle.hop_index.specs.Indexes.{hop_of};
-ghost use Rattle.hop_index.specs.InnerNodes.{LeadsAddress, index_of};
+ghost use Rattle.hop_index.specs.InnerNodes.{LeadsAddress, cell_of_address, index_of};
 ghost use Rattle.hop_index.specs.InnerRanges.{AreRangesOf};
 
 use crate::batches::{Addressed, FromHop, store_all};
@@ -44,14 +44,26 @@ pub(crate) struct Sides {
 }
 
 impl Sides {
+    /// The address's cell.
+    #[inline(always)]
+    pub(crate) fn cell(&self, addr: IpAddr) -> usize
+        ensures { result ≡ cell_of_address self.now.v4 self.now.v6 (address_of addr) }
+    {
+        match addr {
+            IpAddr::V4(addr) => self.v4.cell(u32::of_addr(addr)),
+            IpAddr::V6(addr) => self.v6.cell(u128::of_addr(addr)),
+        }
+    }
+
     /// The entry of the address's cell.
     #[inline(always)]
-    pub(crate) fn entry(&self, addr: IpAddr) -> u32
+    pub(crate) fn entry(&self, cell: usize, addr: IpAddr) -> u32
+        requires { cell ≡ cell_of_address self.now.v4 self.now.v6 (address_of addr) }
         ensures { LeadsAddress self.now.v4 self.now.v6 (address_of addr) result }
     {
         match addr {
-            IpAddr::V4(addr) => self.v4.entry(u32::of_addr(addr)),
-            IpAddr::V6(addr) => self.v6.entry(u128::of_addr(addr)),
+            IpAddr::V4(addr) => self.v4.entry(cell, u32::of_addr(addr)),
+            IpAddr::V6(addr) => self.v6.entry(cell, u128::of_addr(addr)),
         }
     }
 

@@ -2,7 +2,7 @@
 ghost use Rattle.std.specs.Prelude.{◌≡◌, ℕ, ◌^◌, ◌<◌, IfOk};
 ghost use Rattle.hop_index.specs.Ranges.{hop_in};
 ghost use Rattle.hop_index.specs.InnerNodes.{Leads};
-ghost use Rattle.hop_index.specs.InnerRanges.{AreAscending, EndBelow};
+ghost use Rattle.hop_index.specs.InnerRanges.{AreAscending, EndBelow, cell_of, head_of};
 
 use crate::cells::{cell_at, tops_of};
 use crate::nodes::{HOPS, LEVELS, MARK, Node, Nodes, has_hop, hop_in_entry};
@@ -28,7 +28,7 @@ impl<N: Stored> Model for Lookups<N> {
 
     ghost Value = { Divided };
 
-    ghost view = { λ a. record { ranges = a.nodes.ranges; nodes = a.nodes.nodes.items } };
+    ghost view = { λ a. record { tops = a.tops.items; ranges = a.nodes.ranges; nodes = a.nodes.nodes.items } };
 
     ghost invariant = { λ a. AreTops a.tops.items × ArePadded a.nodes.ranges (2 ^ N.width) × AreNodes a.nodes.ranges (2 ^ N.width) a.nodes.nodes.items a.nodes.cells.items × AreEntries (λ x. cell_of a.tops.items (head_of N.width x)) (2 ^ N.width) a.nodes.nodes.items a.nodes.ranges 0 (length a.nodes.ranges) a.cells.items };
 }
@@ -56,13 +56,23 @@ impl<N: Stored> Lookups<N> {
         Ok(Lookups { tops, cells, nodes })
     }
 
-    /// The entry of the number's cell.
+    /// The number's cell.
     #[inline]
-    pub(crate) fn entry(&self, number: N) -> u32
-        ensures leads { Leads self.now.nodes self.now.ranges (N.number number) result }
+    pub(crate) fn cell(&self, number: N) -> usize
+        ensures cell { result ≡ cell_of self.now.tops (head_of N.width (N.number number)) }
         ensures number { N.number number < 2 ^ N.width }
     {
-        self.cells[cell_at(&self.tops, number.head())]
+        cell_at(&self.tops, number.head())
+    }
+
+    /// The entry of the number's cell.
+    #[inline]
+    pub(crate) fn entry(&self, cell: usize, number: N) -> u32
+        requires cell { cell ≡ cell_of self.now.tops (head_of N.width (N.number number)) }
+        requires number { N.number number < 2 ^ N.width }
+        ensures { Leads self.now.nodes self.now.ranges (N.number number) result }
+    {
+        self.cells[cell]
     }
 
     /// The entry of the number's cell of a node; if the entry is no node, the entry itself.
@@ -98,7 +108,7 @@ impl<N: Stored> Lookups<N> {
         ensures hop { result ≡ hop_in self.now.ranges (N.number number) }
         ensures number { N.number number < 2 ^ N.width }
     {
-        let mut entry = self.entry(number);
+        let mut entry = self.entry(self.cell(number), number);
         for _ in 0..LEVELS {
             entry = self.inner_entry(entry, number);
         }
