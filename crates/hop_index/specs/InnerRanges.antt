@@ -1,44 +1,47 @@
 -- Ascending ranges, and the cells that narrow a search in them.
-use Rattle.std.specs.Prelude.{◌≡◌, ◌==◌, ℕ, ◌+◌, ◌*◌, ◌/◌, ◌%◌, ◌-◌, ◌^◌, ◌<◌, ◌≤◌, ◌&&◌, not, if◌then◌else◌, Bool, false, List, [], ◌∷◌, Option, Some, None, AllPairs, drop, length, slice_index, slice_index_or}
+use Rattle.std.specs.Prelude.{◌≡◌, ◌==◌, ℕ, suc, ◌+◌, ◌*◌, ◌/◌, ◌%◌, ◌-◌, ◌^◌, ◌<◌, ◌≤◌, ◌&&◌, not, if◌then◌else◌, Bool, false, List, [], ◌∷◌, Option, Some, None, All, AllPairs, length, slice_index, slice_index_or}
 use Rattle.ipnet_addr.specs.Addresses.{Address, Family, width}
 use Rattle.route_laws.specs.Flats.{IsFlat, Piece}
 use Rattle.hop_index.specs.Ranges.{HopRange, hop_in}
 use Rattle.hop_index.specs.declared.ranges.Range.{Range}
 
+-- f of each index and the value at it
+abbrev pub map_at : {A B : Type 0} → (ℕ → A → B) → List A → List B
+map_at f [] = []
+map_at f (x ∷ xs) = f 0 x ∷ map_at (λ k. f (suc k)) xs
+
 -- the hop that is stored: 2 ^ 32 - 1 stands for no hop, unless a mark says that it is the hop
 abbrev pub hop_of_mark : ℕ → Bool → Option ℕ
 hop_of_mark hop marked = if hop == 4294967295 && not marked then None else Some hop
 
-module _ {F : Type 0} (joined : F → ℕ → ℕ) where
-  -- a stored range with the bits after the front of its last number, and its mark
-  abbrev pub whole_range : Range F → ℕ → Bool → HopRange
-  whole_range r rest marked = record { last = joined r.front rest; hop = hop_of_mark r.hop marked }
+-- a stored range with the bits after the front of its last number, and its mark; ones and false stand for those after the ends of the lists
+abbrev pub whole_range : {F : Type 0} → (F → ℕ → ℕ) → List ℕ → List Bool → ℕ → Range F → HopRange
+whole_range joined rests marks k r = record { last = joined r.front (slice_index_or rests k 18446744073709551615); hop = hop_of_mark r.hop (slice_index_or marks k false) }
 
-  -- the ranges with those bits and marks; ones and false stand for those after the ends of the lists
-  abbrev pub ranges_of : List (Range F) → List ℕ → List Bool → List HopRange
-  ranges_of [] rests marks = []
-  ranges_of (r ∷ rs) rests marks = whole_range r (slice_index_or rests 0 18446744073709551615) (slice_index_or marks 0 false) ∷ ranges_of rs (drop 1 rests) (drop 1 marks)
+-- the range at an index
+abbrev pub range_at : List HopRange → ℕ → HopRange
+range_at rs k = slice_index_or rs k (record { last = 0; hop = None })
 
 -- no range ends below the range before it
 abbrev pub AreAscending : List HopRange → Type 0
-AreAscending rs = (j k : ℕ) (d : HopRange) → j ≤ k → k < length rs → (slice_index_or rs j d).last ≤ (slice_index_or rs k d).last
+AreAscending rs = AllPairs (λ r s. r.last ≤ s.last) rs
 
--- the first i ranges end below y
-pub record EndsBelow (rs : List HopRange) (y i : ℕ) : Type 0 where
-  pub within : i ≤ length rs
-  pub below : (k : ℕ) (d : HopRange) → k < i → (slice_index_or rs k d).last < y
+abbrev pub EndBelow : ℕ → List HopRange → Type 0
+EndBelow x rs = All (λ r. r.last < x) rs
 
--- the ranges from index i on end at y or above
-pub record EndsFrom (rs : List HopRange) (y i : ℕ) : Type 0 where
-  pub within : i ≤ length rs
-  pub from : (k : ℕ) (d : HopRange) → i ≤ k → k < length rs → y ≤ (slice_index_or rs k d).last
+-- at least `low` and at most `high` ranges end below x
+pub record IsBetween (rs : List HopRange) (x low high : ℕ) : Type 0 where
+  pub order : low ≤ high
+  pub within : high ≤ length rs
+  pub below : (k : ℕ) → k < low → (range_at rs k).last < x
+  pub from : (k : ℕ) → high ≤ k → k < length rs → x ≤ (range_at rs k).last
 
--- ascending ranges that end below `end`, the last four at the number before it
+-- ascending ranges that end below `end`, at least four of them at the number before it
 pub record ArePadded (rs : List HopRange) (end : ℕ) : Type 0 where
   pub ascending : AreAscending rs
-  pub within : EndsBelow rs end (length rs)
+  pub within : EndBelow end rs
   pub four : 4 ≤ length rs
-  pub pads : EndsFrom rs (end - 1) (length rs - 4)
+  pub pads : end ≤ (range_at rs (length rs - 4)).last + 1
 
 -- the first cell of each chunk, and the number of all cells. A chunk has the numbers with the same first 16 bits, and at least one cell
 pub record AreTops (tops : List ℕ) : Type 0 where
@@ -58,5 +61,5 @@ cell_of tops head =
 -- ascending ranges that give the addresses of a family the hops of a flat list
 pub record AreRangesOf (ps : List Piece) (f : Family) (rs : List HopRange) : Type 0 where
   pub ascending : AreAscending rs
-  pub within : EndsBelow rs (2 ^ width f) (length rs)
+  pub within : EndBelow (2 ^ width f) rs
   pub hops : (h : Address → Option ℕ) → IsFlat h ps → (n : ℕ) → n < 2 ^ width f → hop_in rs n ≡ h (record { family = f; number = n })

@@ -1,8 +1,8 @@
 //! Lookups of many addresses, in steps, so that reads of memory for several addresses overlap.
-ghost use Rattle.std.specs.Prelude.{◌≡◌, ℕ, ◌<◌, ◌≤◌, ◌⊎◌, Option, length, map, slice_index_or};
+ghost use Rattle.std.specs.Prelude.{◌≡◌, ℕ, ◌<◌, ◌≤◌, Option, length, map, slice_index, slice_index_or};
 ghost use Rattle.ipnet_addr.specs.Addresses.{Address, Ipv4, address_of};
 ghost use Rattle.hop_index.specs.Indexes.{hop_number, hop_of};
-ghost use Rattle.hop_index.specs.InnerNodes.{AllLead, AreCells, AreFound, ArePlaces, HasHop, IsPlace, hop_in_entry, index_of};
+ghost use Rattle.hop_index.specs.InnerNodes.{AllLead, AreFound, ArePlaces, HasHop, IsUnlisted, cell_of_address, hop_in_entry, index_of};
 
 use crate::index::Sides;
 use crate::nodes::{LEVELS, MARK, has_hop, hop_in_entry};
@@ -76,7 +76,7 @@ impl FromHop for u64 {
 /// The first step: the cell of each address.
 fn locate<A: Addressed>(sides: &Sides, addrs: &[A], cells: &mut [usize])
     requires { length cells.old ≡ length addrs.now }
-    ensures { AreCells sides.now.v4 sides.now.v6 A.address addrs.now cells.new }
+    ensures { (k : ℕ) (a : A) (c : ℕ) → k < length addrs.now → slice_index_or cells.new k c ≡ cell_of_address sides.now.v4 sides.now.v6 (A.address (slice_index_or addrs.now k a)) }
 {
     for place in 0..addrs.len() {
         cells[place] = sides.cell(addrs[place].addr());
@@ -85,7 +85,8 @@ fn locate<A: Addressed>(sides: &Sides, addrs: &[A], cells: &mut [usize])
 
 /// The second step: the entry of each cell.
 fn enter<A: Addressed>(sides: &Sides, addrs: &[A], cells: &[usize], entries: &mut [u32])
-    requires cells { AreCells sides.now.v4 sides.now.v6 A.address addrs.now cells.now }
+    requires all { length cells.now ≡ length addrs.now }
+    requires cells { (k : ℕ) (a : A) (c : ℕ) → k < length addrs.now → slice_index_or cells.now k c ≡ cell_of_address sides.now.v4 sides.now.v6 (A.address (slice_index_or addrs.now k a)) }
     requires entries { length entries.old ≡ length addrs.now }
     ensures { AllLead sides.now.v4 sides.now.v6 A.address addrs.now entries.new }
 {
@@ -98,8 +99,7 @@ fn enter<A: Addressed>(sides: &Sides, addrs: &[A], cells: &[usize], entries: &mu
 /// predict it. This is a loop of its own, since some processors read nothing more before they know the place of an earlier store.
 fn list_nodes(entries: &[u32], places: &mut [usize]) -> usize
     requires { length places.old ≡ length entries.now }
-    ensures all { length places.new ≡ length places.old }
-    ensures places { ArePlaces (length entries.now) result places.new }
+    ensures { ArePlaces (length entries.now) result places.new }
 {
     let mut count = 0;
     for place in 0..entries.len() {
@@ -107,6 +107,21 @@ fn list_nodes(entries: &[u32], places: &mut [usize]) -> usize
         count += usize::from(entries[place] >= MARK);
     }
     count
+}
+
+/// Of the first `count` places, stores those of entries that are still nodes first, and returns their number. No branch depends on an
+/// entry.
+fn keep_nodes(entries: &[u32], places: &mut [usize], count: usize) -> usize
+    requires { ArePlaces (length entries.now) count places.old }
+    ensures { ArePlaces (length entries.now) result places.new }
+{
+    let mut kept = 0;
+    for at in 0..count {
+        let place = places[at];
+        places[kept] = place;
+        kept += usize::from(entries[place] >= MARK);
+    }
+    kept
 }
 
 /// The next entry of the addresses at these places.
@@ -121,19 +136,19 @@ fn follow<A: Addressed>(sides: &Sides, addrs: &[A], entries: &mut [u32], places:
     }
 }
 
-/// The third step, level by level: the entry that nodes lead each address to.
+/// The third step, level by level: the entry that nodes lead each address to. An entry that is no node stays so.
 fn lead<A: Addressed>(sides: &Sides, addrs: &[A], places: &mut [usize], entries: &mut [u32])
     requires places { length places.old ≡ length addrs.now }
     requires entries { AllLead sides.now.v4 sides.now.v6 A.address addrs.now entries.old }
-    ensures all { length places.new ≡ length addrs.now }
-    ensures entries { AllLead sides.now.v4 sides.now.v6 A.address addrs.now entries.new }
+    ensures { AllLead sides.now.v4 sides.now.v6 A.address addrs.now entries.new }
 {
+    let mut count = list_nodes(entries, places);
     for _ in 0..LEVELS {
-        let count = list_nodes(entries, places);
         if count == 0 {
             break;
         }
         follow(sides, addrs, entries, &places[..count]);
+        count = keep_nodes(entries, places, count);
     }
 }
 
@@ -151,10 +166,8 @@ fn other(entry: u32, addr: IpAddr) -> usize
 fn list_others<A: Addressed>(addrs: &[A], entries: &[u32], places: &mut [usize]) -> usize
     requires entries { length entries.now ≡ length addrs.now }
     requires places { length places.old ≡ length addrs.now }
-    ensures all { length places.new ≡ length addrs.now }
     ensures places { ArePlaces (length addrs.now) result places.new }
-    ensures others { (k e : ℕ) → k < length addrs.now → HasHop (slice_index_or entries.now k e) ⊎ IsPlace k 0 result places.new }
-    ensures every { result ≡ length addrs.now → (k : ℕ) → k < length addrs.now → IsPlace k 0 result places.new }
+    ensures others { (k : ℕ) → k < length addrs.now → IsUnlisted k 0 result places.new → (result < length addrs.now) × HasHop (slice_index entries.now k) }
 {
     let mut count = 0;
     for place in 0..addrs.len() {
@@ -167,8 +180,7 @@ fn list_others<A: Addressed>(addrs: &[A], entries: &[u32], places: &mut [usize])
 /// The fourth step: the hops of entries that have one. The others get any hop.
 fn tell<H: FromHop>(entries: &[u32], hops: &mut [H])
     requires { length hops.old ≡ length entries.now }
-    ensures all { length hops.new ≡ length entries.now }
-    ensures each { (k e : ℕ) (h : H) → k < length entries.now → slice_index_or hops.new k h ≡ H.of_hop (hop_in_entry (slice_index_or entries.now k e)) }
+    ensures { (k e : ℕ) (h : H) → k < length entries.now → slice_index_or hops.new k h ≡ H.of_hop (hop_in_entry (slice_index_or entries.now k e)) }
 {
     for place in 0..entries.len() {
         hops[place] = H::from_hop(hop_in_entry(entries[place]));

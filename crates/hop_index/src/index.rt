@@ -47,8 +47,7 @@ impl Sides {
     /// The address's cell.
     #[inline(always)]
     pub(crate) fn cell(&self, addr: IpAddr) -> usize
-        ensures cell { result ≡ cell_of_address self.now.v4 self.now.v6 (address_of addr) }
-        ensures address { IsAddress (address_of addr) }
+        ensures { result ≡ cell_of_address self.now.v4 self.now.v6 (address_of addr) }
     {
         match addr {
             IpAddr::V4(addr) => self.v4.cell(u32::of_addr(addr)),

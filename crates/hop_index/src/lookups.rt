@@ -1,11 +1,11 @@
 //! Lookups in the ranges of a family.
-ghost use Rattle.std.specs.Prelude.{◌≡◌, ℕ, ◌^◌, ◌<◌, IfOk, length};
+ghost use Rattle.std.specs.Prelude.{◌≡◌, ℕ, ◌^◌, ◌<◌, IfOk};
 ghost use Rattle.hop_index.specs.Ranges.{hop_in};
-ghost use Rattle.hop_index.specs.InnerNodes.{Leads, cell_at};
-ghost use Rattle.hop_index.specs.InnerRanges.{AreAscending, EndsBelow};
+ghost use Rattle.hop_index.specs.InnerNodes.{Leads};
+ghost use Rattle.hop_index.specs.InnerRanges.{AreAscending, EndBelow, cell_of, head_of};
 
 use crate::cells::{cell_at, tops_of};
-use crate::nodes::{HOPS, LEVELS, Node, Nodes, has_hop, hop_in_entry};
+use crate::nodes::{HOPS, LEVELS, MARK, Node, Nodes, has_hop, hop_in_entry};
 use crate::ranges::Ranges;
 use crate::stored::Stored;
 use std::alloc::{AllocError, Global};
@@ -37,7 +37,7 @@ impl<N: Stored> Lookups<N> {
     /// The lookups of the ranges.
     pub(crate) fn new(alloc: Global, mut ranges: Ranges<N>) -> Result<Lookups<N>, AllocError>
         requires ascending { AreAscending ranges }
-        requires within { EndsBelow ranges (2 ^ N.width) (length ranges) }
+        requires within { EndBelow (2 ^ N.width) ranges }
         ensures { IfOk result (λ l. (x : ℕ) → hop_in l.ranges x ≡ hop_in ranges x) }
     {
         ranges.pad()?;
@@ -47,7 +47,11 @@ impl<N: Stored> Lookups<N> {
         }
         let tops = tops_of(alloc, &ranges)?;
         let all = Node::over(&ranges, 0, end as u32, 0);
-        let mut nodes = Nodes::new(alloc, ranges);
+        let mut nodes = Nodes {
+            ranges,
+            nodes: Vec::new(alloc),
+            cells: Vec::new(alloc),
+        };
         let cells = nodes.entries(alloc, &all, Some(&tops), LEVELS)?;
         Ok(Lookups { tops, cells, nodes })
     }
@@ -55,7 +59,7 @@ impl<N: Stored> Lookups<N> {
     /// The number's cell.
     #[inline]
     pub(crate) fn cell(&self, number: N) -> usize
-        ensures cell { result ≡ cell_at N.width self.now (N.number number) }
+        ensures cell { result ≡ cell_of self.now.tops (head_of N.width (N.number number)) }
         ensures number { N.number number < 2 ^ N.width }
     {
         cell_at(&self.tops, number.head())
@@ -64,9 +68,9 @@ impl<N: Stored> Lookups<N> {
     /// The entry of the number's cell.
     #[inline]
     pub(crate) fn entry(&self, cell: usize, number: N) -> u32
-        requires cell { cell ≡ cell_at N.width self.now (N.number number) }
+        requires cell { cell ≡ cell_of self.now.tops (head_of N.width (N.number number)) }
         requires number { N.number number < 2 ^ N.width }
-        ensures leads { Leads self.now.nodes self.now.ranges (N.number number) result }
+        ensures { Leads self.now.nodes self.now.ranges (N.number number) result }
     {
         self.cells[cell]
     }
@@ -78,7 +82,11 @@ impl<N: Stored> Lookups<N> {
         requires entry { Leads self.now.nodes self.now.ranges (N.number number) entry }
         ensures { Leads self.now.nodes self.now.ranges (N.number number) result }
     {
-        self.nodes.inner_entry(entry, number)
+        if entry < MARK {
+            return entry;
+        }
+        let node = &self.nodes.nodes[(entry - MARK) as usize];
+        self.nodes.cells[node.place(number)]
     }
 
     /// The hop of the number, from its entry.

@@ -1,12 +1,12 @@
 //! Nodes: cells in which many ranges end, divided again.
-ghost use Rattle.std.specs.Prelude.{◌≡◌, ℕ, ◌+◌, ◌-◌, ◌^◌, ◌<◌, ◌≤◌, ◌↔◌, ◌++◌, [], ◌∷◌, List, Some, IfOk, IfSome, IsTrue, OnOk, length, option_copied, slice_index_or};
-ghost use Rattle.hop_index.specs.Ranges.{HopRange};
-ghost use Rattle.hop_index.specs.InnerRanges.{AreAscending, ArePadded, AreTops, EndsBelow, EndsFrom};
-ghost use Rattle.hop_index.specs.InnerNodes.{AreEntries, AreNodes, HasHop, IsBetween, Leads, StoredNode, cell_by, cell_in, hop_in_entry};
+ghost use Rattle.std.specs.Prelude.{◌≡◌, ℕ, ◌+◌, ◌-◌, ◌^◌, ◌<◌, ◌≤◌, ◌↔◌, ◌++◌, [], ◌∷◌, List, Some, IfOk, IfSome, IsTrue, OnOk, length, option_copied};
+ghost use Rattle.hop_index.specs.InnerRanges.{AreAscending, ArePadded, AreTops, IsBetween, range_at};
+ghost use Rattle.hop_index.specs.InnerNodes.{AreEntries, AreNodes, HasHop, Leads, StoredNode, cell_by, cell_in, hop_in_entry};
 
 use crate::cells::cell_at;
 use crate::ranges::Ranges;
 use crate::stored::{Stored, highest};
+use ipnet_addr::bits::cleared;
 use std::alloc::{AllocError, Global};
 use std::marker::Model;
 
@@ -99,7 +99,7 @@ impl<N: Stored> Node<N> {
         let last = ranges.last(after as usize - 1);
         let span = last.to_bits().saturating_sub(first.to_bits());
         let shift = shift_of(span, after - before).min(u32::from(N::width()) - 1);
-        let first = N::from_bits(first.to_bits() >> shift << shift);
+        let first = N::from_bits(cleared(first.to_bits(), shift as u8));
         let last = last.steps(first, shift, most);
         Node {
             before,
@@ -149,7 +149,7 @@ impl<N: Stored> Node<N> {
 
     /// The place of the entry of the cell of a number.
     #[inline]
-    fn place(&self, number: N) -> usize
+    pub(crate) fn place(&self, number: N) -> usize
         ensures { result ≡ self.now.place + cell_in self.now (N.number number) }
     {
         self.place as usize + self.cell(number) as usize
@@ -165,18 +165,6 @@ pub(crate) struct Nodes<N: Stored> {
 }
 
 impl<N: Stored> Nodes<N> {
-    /// Ranges without nodes. Does not allocate.
-    pub(crate) fn new(alloc: Global, ranges: Ranges<N>) -> Nodes<N>
-        ensures ranges { result.ranges ≡ ranges }
-        ensures nodes { AreNodes ranges (2 ^ N.width) result.nodes.items result.cells.items }
-    {
-        Nodes {
-            ranges,
-            nodes: Vec::new(alloc),
-            cells: Vec::new(alloc),
-        }
-    }
-
     /// The entry of a node that is added next.
     fn next_entry(&self) -> Result<u32, AllocError>
         ensures { IfOk result (λ e. e ≡ 2147483648 + length self.now.nodes.items) }
@@ -213,8 +201,8 @@ impl<N: Stored> Nodes<N> {
         requires within { node.now.after ≤ length self.now.ranges }
         ensures least { place ≤ result }
         ensures most { result ≤ node.now.after }
-        ensures inside { (k : ℕ) (d : HopRange) → place ≤ k → k < result → cell_by N.width (option_copied tops.entry) node.now (slice_index_or self.now.ranges k d).last ≤ cell }
-        ensures beyond { result < node.now.after → (d : HopRange) → cell < cell_by N.width (option_copied tops.entry) node.now (slice_index_or self.now.ranges result d).last }
+        ensures inside { (k : ℕ) → place ≤ k → k < result → cell_by N.width (option_copied tops.entry) node.now (range_at self.now.ranges k).last ≤ cell }
+        ensures beyond { result < node.now.after → cell < cell_by N.width (option_copied tops.entry) node.now (range_at self.now.ranges result).last }
     {
         while place < node.bounds().1
             && node.cell_by(tops, self.ranges.last(place as usize)) <= cell
@@ -250,7 +238,7 @@ impl<N: Stored> Nodes<N> {
     ) -> Option<u32>
         requires tops { (ts : List ℕ) → option_copied tops ≡ Some ts → AreTops ts }
         requires ranges { ArePadded self.now.ranges (2 ^ N.width) }
-        ensures { IfSome result (λ e. (nodes : List StoredNode) (x : ℕ) → x < 2 ^ N.width → cell_by N.width (option_copied tops.entry) node.now x ≡ cell → EndsBelow self.now.ranges x place → Leads nodes self.now.ranges x e) }
+        ensures { IfSome result (λ e. (nodes : List StoredNode) (x high : ℕ) → x < 2 ^ N.width → cell_by N.width (option_copied tops.entry) node.now x ≡ cell → IsBetween self.now.ranges x place high → Leads nodes self.now.ranges x e) }
     {
         if N::width() > 32 || place as usize >= self.ranges.len() {
             return None;
@@ -303,29 +291,13 @@ impl<N: Stored> Nodes<N> {
         Ok(entries)
     }
 
-    /// The entry of the number's cell of a node; if the entry is no node, the entry itself.
-    #[inline]
-    pub(crate) fn inner_entry(&self, entry: u32, number: N) -> u32
-        requires nodes { AreNodes self.now.ranges (2 ^ N.width) self.now.nodes.items self.now.cells.items }
-        requires number { N.number number < 2 ^ N.width }
-        requires entry { Leads self.now.nodes.items self.now.ranges (N.number number) entry }
-        ensures { Leads self.now.nodes.items self.now.ranges (N.number number) result }
-    {
-        if entry < MARK {
-            return entry;
-        }
-        let node = &self.nodes[(entry - MARK) as usize];
-        self.cells[node.place(number)]
-    }
-
     /// The number of ranges that end below a number, from its entry, which has no hop.
     #[inline]
     pub(crate) fn ended(&self, entry: u32, number: N) -> usize
         requires ascending { AreAscending self.now.ranges }
         requires entry { Leads self.now.nodes.items self.now.ranges (N.number number) entry }
         requires no_hop { HasHop entry → ⊥ }
-        ensures below { EndsBelow self.now.ranges (N.number number) result }
-        ensures from { EndsFrom self.now.ranges (N.number number) result }
+        ensures { IsBetween self.now.ranges (N.number number) result result }
     {
         if entry < MARK {
             return self.ranges.among_four(entry, number);

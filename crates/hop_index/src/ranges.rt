@@ -1,7 +1,7 @@
 //! The ranges of one hop, or of none, that the addresses of a family fall into.
-ghost use Rattle.std.specs.Prelude.{◌≡◌, ℕ, ◌+◌, ◌-◌, ◌^◌, ◌<◌, ◌≤◌, ◌↔◌, ◌++◌, [], ◌∷◌, Some, None, IsTrue, OnOk, length, slice_index_or};
-ghost use Rattle.hop_index.specs.Ranges.{HopRange, hop_in};
-ghost use Rattle.hop_index.specs.InnerRanges.{AreAscending, ArePadded, EndsBelow, EndsFrom, head_of};
+ghost use Rattle.std.specs.Prelude.{◌≡◌, ℕ, ◌+◌, ◌^◌, ◌<◌, ◌≤◌, ◌++◌, [], ◌∷◌, Some, None, IsTrue, OnOk, length, slice_index_or};
+ghost use Rattle.hop_index.specs.Ranges.{hop_in};
+ghost use Rattle.hop_index.specs.InnerRanges.{AreAscending, ArePadded, EndBelow, IsBetween, head_of, range_at};
 
 use crate::stored::{Stored, highest};
 use std::alloc::{AllocError, Global};
@@ -22,10 +22,7 @@ struct Range<F> {
 fn stored_at<T: Copy>(stored: &[T], place: usize, usual: T) -> T
     ensures { result ≡ slice_index_or stored.now place usual }
 {
-    match stored.get(place) {
-        Some(value) => *value,
-        None => usual,
-    }
+    stored.get(place).copied().unwrap_or(usual)
 }
 
 /// Stores the value for the range at this index, unless it is the usual one. The indexes before it without a value get the usual one.
@@ -65,11 +62,11 @@ pub(crate) struct Ranges<N: Stored> {
 impl<N: Stored> Model for Ranges<N> {
     ghost use Rattle.std.specs.Prelude.{◌≤◌, List, length};
     ghost use Rattle.hop_index.specs.Ranges.{HopRange};
-    ghost use Rattle.hop_index.specs.InnerRanges.{ranges_of};
+    ghost use Rattle.hop_index.specs.InnerRanges.{map_at, whole_range};
 
     ghost Value = { List HopRange };
 
-    ghost view = { λ r. ranges_of N.joined r.ranges.items r.rests.items r.marks.items };
+    ghost view = { λ r. map_at (whole_range N.joined r.rests.items r.marks.items) r.ranges.items };
 
     ghost invariant = { λ r. (length r.rests.items ≤ length r.ranges.items) × (length r.marks.items ≤ length r.ranges.items) };
 }
@@ -87,6 +84,7 @@ impl<N: Stored> Ranges<N> {
     }
 
     /// The number of ranges.
+    #[tactic(auto, using(crate::proofs::Marks::length_map_at))]
     #[inline]
     pub(crate) fn len(&self) -> usize
         ensures { result ≡ length self.now }
@@ -95,39 +93,38 @@ impl<N: Stored> Ranges<N> {
     }
 
     /// The last number of the range at this index.
+    #[tactic(auto, using(crate::proofs::Marks::length_map_at))]
     #[inline]
     pub(crate) fn last(&self, place: usize) -> N
         requires { place < length self.now }
-        ensures { (d : HopRange) → N.number result ≡ (slice_index_or self.now place d).last }
+        ensures { N.number result ≡ (range_at self.now place).last }
     {
         let rest = stored_at(&self.rests, place, u64::MAX);
         N::of_parts(self.ranges[place].front, rest)
     }
 
     /// The first 64 bits of the last number of the range at this index.
+    #[tactic(auto, using(crate::proofs::Marks::length_map_at))]
     #[inline]
     pub(crate) fn head(&self, place: usize) -> u64
         requires { place < length self.now }
-        ensures { (d : HopRange) → result ≡ head_of N.width (slice_index_or self.now place d).last }
+        ensures { result ≡ head_of N.width (range_at self.now place).last }
     {
         N::head_at(self.ranges[place].front)
     }
 
     /// The hop of the range at this index.
+    #[tactic(auto, using(crate::proofs::Marks::length_map_at))]
     #[inline]
     pub(crate) fn hop(&self, place: usize) -> Option<u32>
         requires { place < length self.now }
-        ensures { (d : HopRange) → result ≡ (slice_index_or self.now place d).hop }
+        ensures { result ≡ (range_at self.now place).hop }
     {
         let hop = self.ranges[place].hop;
-        if hop != NO_HOP {
-            return Some(hop);
+        if hop == NO_HOP && !stored_at(&self.marks, place, false) {
+            return None;
         }
-        if stored_at(&self.marks, place, false) {
-            Some(hop)
-        } else {
-            None
-        }
+        Some(hop)
     }
 
     /// Adds a range after the others.
@@ -144,23 +141,12 @@ impl<N: Stored> Ranges<N> {
         Ok(())
     }
 
-    /// Whether no range ends at the number or above. Ranges must ascend.
-    fn end_below(&self, number: N) -> bool
-        requires { AreAscending self.now }
-        ensures { IsTrue result ↔ EndsBelow self.now (N.number number) (length self.now) }
-    {
-        let end = self.len();
-        end == 0 || self.last(end - 1).to_bits() < number.to_bits()
-    }
-
     /// The number of ranges that end below the number, if that is at least `low` and at most `low + 4`.
     #[inline]
     pub(crate) fn among_four(&self, low: u32, number: N) -> usize
         requires ascending { AreAscending self.now }
-        requires low { EndsBelow self.now (N.number number) low }
-        requires high { EndsFrom self.now (N.number number) (low + 4) }
-        ensures below { EndsBelow self.now (N.number number) result }
-        ensures from { EndsFrom self.now (N.number number) result }
+        requires between { IsBetween self.now (N.number number) low (low + 4) }
+        ensures { IsBetween self.now (N.number number) result result }
     {
         let low = low as usize;
         let head = number.head();
@@ -179,10 +165,8 @@ impl<N: Stored> Ranges<N> {
     /// The number of ranges that end below the number, if that is at least `low` and at most `high`.
     pub(crate) fn by_halves(&self, mut low: usize, mut high: usize, number: N) -> usize
         requires ascending { AreAscending self.now }
-        requires low { EndsBelow self.now (N.number number) low }
-        requires high { EndsFrom self.now (N.number number) high }
-        ensures below { EndsBelow self.now (N.number number) result }
-        ensures from { EndsFrom self.now (N.number number) result }
+        requires between { IsBetween self.now (N.number number) low high }
+        ensures { IsBetween self.now (N.number number) result result }
     {
         while low < high {
             let middle = low + (high - low) / 2;
@@ -198,33 +182,30 @@ impl<N: Stored> Ranges<N> {
     /// Adds a range without a hop up to the number before this one, unless a range ends there. All ranges must end below the number.
     fn reach(&mut self, number: u128) -> Result<(), AllocError>
         requires ascending { AreAscending self.old }
-        requires below { EndsBelow self.old number (length self.old) }
+        requires below { EndBelow number self.old }
         requires within { number < 2 ^ N.width }
         ensures ascending { OnOk result (AreAscending self.new) }
-        ensures below { OnOk result (EndsBelow self.new number (length self.new)) }
+        ensures below { OnOk result (EndBelow number self.new) }
         ensures hops { OnOk result ((x : ℕ) → hop_in self.new x ≡ hop_in self.old x) }
-        ensures reached { OnOk result ((x : ℕ) → x < number → EndsBelow self.new x (length self.new) → ⊥) }
+        ensures reached { OnOk result ((x : ℕ) → x < number → EndBelow x self.new → ⊥) }
     {
-        if number == 0 {
+        let end = self.len();
+        if number == 0 || end > 0 && self.last(end - 1).to_bits() == number - 1 {
             return Ok(());
         }
-        let before = N::from_bits(number - 1);
-        if !self.end_below(before) {
-            return Ok(());
-        }
-        self.push(before, None)?;
+        self.push(N::from_bits(number - 1), None)?;
         Ok(())
     }
 
     /// Gives the numbers from `first` to `last` this hop. All ranges must end below them.
     pub(crate) fn add(&mut self, first: u128, last: u128, hop: u32) -> Result<(), AllocError>
         requires ascending { AreAscending self.old }
-        requires below { EndsBelow self.old first (length self.old) }
+        requires below { EndBelow first self.old }
         requires some { first ≤ last }
         requires within { last < 2 ^ N.width }
         ensures ascending { OnOk result (AreAscending self.new) }
-        ensures below { OnOk result (EndsBelow self.new (last + 1) (length self.new)) }
-        ensures within { OnOk result (EndsBelow self.new (2 ^ N.width) (length self.new)) }
+        ensures below { OnOk result (EndBelow (last + 1) self.new) }
+        ensures within { OnOk result (EndBelow (2 ^ N.width) self.new) }
         ensures inside { OnOk result ((x : ℕ) → first ≤ x → x ≤ last → hop_in self.new x ≡ Some hop) }
         ensures outside { OnOk result ((x : ℕ) → (first ≤ x → x ≤ last → ⊥) → hop_in self.new x ≡ hop_in self.old x) }
     {
@@ -236,7 +217,7 @@ impl<N: Stored> Ranges<N> {
     /// Adds four ranges without a hop that end at the highest number.
     pub(crate) fn pad(&mut self) -> Result<(), AllocError>
         requires ascending { AreAscending self.old }
-        requires within { EndsBelow self.old (2 ^ N.width) (length self.old) }
+        requires within { EndBelow (2 ^ N.width) self.old }
         ensures padded { OnOk result (ArePadded self.new (2 ^ N.width)) }
         ensures hops { OnOk result ((x : ℕ) → hop_in self.new x ≡ hop_in self.old x) }
     {

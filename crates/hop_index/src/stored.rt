@@ -14,7 +14,8 @@ pub(crate) trait Stored: Key {
 
     /// Returns the front and the bits after it. IPv4 has none, and returns ones.
     fn parts(self) -> (Self::Front, u64)
-        ensures { joined result.0 result.1 ≡ Self.number self };
+        ensures joined { joined result.0 result.1 ≡ Self.number self }
+        ensures within { Self.number self < 2 ^ Self.width };
 
     /// Returns the number of a front and the bits after it.
     fn of_parts(front: Self::Front, rest: u64) -> Self
@@ -25,9 +26,13 @@ pub(crate) trait Stored: Key {
         ensures { (rest : ℕ) → result ≡ head_of Self.width (joined front rest) };
 
     /// Returns the first 64 bits.
+    #[inline]
     fn head(self) -> u64
         ensures head { result ≡ head_of Self.width (Self.number self) }
-        ensures within { Self.number self < 2 ^ Self.width };
+        ensures within { Self.number self < 2 ^ Self.width }
+    {
+        Self::head_at(self.parts().0)
+    }
 
     /// Returns how many steps of 2^`shift` numbers the number is above `first`, or `most` if that is less. `first` must be a multiple of
     /// 2^`shift`.
@@ -65,11 +70,6 @@ impl Stored for u32 {
     }
 
     #[inline]
-    fn head(self) -> u64 {
-        u64::from(self) << 32
-    }
-
-    #[inline]
     fn steps(self, first: u32, shift: u32, most: u32) -> u32 {
         (self.saturating_sub(first) >> shift).min(most)
     }
@@ -104,11 +104,7 @@ impl Stored for u128 {
         (u64::from(front.high) << 32) + u64::from(front.low)
     }
 
-    #[inline]
-    fn head(self) -> u64 {
-        (self >> 64) as u64
-    }
-
+    #[tactic(auto, using(crate::proofs::Divisions::steps_by_head))]
     #[inline]
     fn steps(self, first: u128, shift: u32, most: u32) -> u32 {
         if shift >= 64 {

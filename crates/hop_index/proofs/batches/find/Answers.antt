@@ -1,4 +1,4 @@
-use Rattle.std.proofs.Common.{ap, ◌∙◌}
+use Rattle.std.proofs.Common.{refl, ap, ◌∙◌}
 use Rattle.std.proofs.lemmas.List.{get_or_default}
 use Rattle.hop_index.specs.Indexes.{hop_of}
 use Rattle.hop_index.specs.InnerNodes.{index_of}
@@ -8,6 +8,6 @@ use Rattle.hop_index.proofs.batches.find.Goals as goal
 pub loop-at-preserved : goal.loop-at-preserved
 loop-at-preserved g c =
     let place_in = c.requires.places.within c.loop-at.at 0 c.loop-at-test.true in
-    found_one _ c.args.addrs.now c.args.places.now c.loop-at.at _ c.from_hop.result c.loop-at.hops (λ d. get_or_default c.args.places.now c.loop-at.at d 0 c.loop-at-test.true) place_in
+    found_one _ c.args.addrs.now c.args.places.now c.loop-at.at _ c.from_hop.result c.loop-at.hops refl place_in
     (λ a. c.from_hop.ensures ∙ ap g.H.FromHop.of_hop (c.hop.ensures ∙ ap (hop_of (index_of c.args.sides.now.v4 c.args.sides.now.v6)) (c.addr.ensures ∙ ap g.A.Addressed.address (c.index-addrs-place.is ∙ get_or_default c.args.addrs.now _ c.index-addrs-place.result a place_in))))
     c.loop-at.invariant

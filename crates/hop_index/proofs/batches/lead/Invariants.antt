@@ -1,6 +1,6 @@
-use Rattle.std.proofs.Common.{◌≡◌, length}
-use Rattle.hop_index.specs.InnerNodes.{AllLead}
+use Rattle.std.proofs.Common.{length}
+use Rattle.hop_index.specs.InnerNodes.{AllLead, ArePlaces}
 use Rattle.hop_index.proofs.batches.lead.Given as goal
 
 abbrev pub invariant-loop : goal.invariant-loop
-invariant-loop g l = record { all : length l.places ≡ length l.addrs; leads : AllLead l.sides.v4 l.sides.v6 g.A.Addressed.address l.addrs l.entries }
+invariant-loop g l = record { places : ArePlaces (length l.addrs) l.count l.places; leads : AllLead l.sides.v4 l.sides.v6 g.A.Addressed.address l.addrs l.entries }

@@ -1,5 +1,4 @@
-use Rattle.std.proofs.Common.{◌≡◌, ◌+◌, ◌-◌, ◌≤◌, ℕ, length, length-append, length-drop, length-take, arith}
-use Rattle.std.proofs.lemmas.List.{length-map}
+use Rattle.std.proofs.Common.{◌+◌, ◌≤◌, ℕ, length, ◌∙◌, arith}
 use Rattle.hop_index.specs.Indexes.{hop_of}
 use Rattle.hop_index.specs.InnerNodes.{index_of}
 use Rattle.hop_index.proofs.Groups.{one_more_group}
@@ -11,8 +10,7 @@ loop-place-preserved g c =
     let i = c.loop-place.invariant in
     let within : end ≤ length c.args.addrs.now = omega (arith, c.min.ensures, i.within) in
     record {
-      as_long = let n : length c.store.new.hops ≡ end - c.loop-place.place = grind (arith, c.store.ensures, length-map, length-take, length-drop) in grind (arith, n, i.as_long, length-append, length-take, length-drop);
       within = within;
       done = one_more_group (λ addr. g.H.FromHop.of_hop (hop_of (index_of c.args.sides.now.v4 c.args.sides.now.v6) (g.A.Addressed.address addr))) c.args.addrs.now c.loop-place.hops c.store.new.hops c.loop-place.place end
-          (omega arith) within i.as_long c.store.ensures i.done;
+          (omega arith) within (c.loop-place.auto.hops ∙ c.requires) c.store.ensures i.done;
     }

@@ -7,7 +7,4 @@ pub add-requires-clause-entries : goal.add-requires-clause-entries
 add-requires-clause-entries g c = λ d before after.
     let last : c.over-node.result.last ≤ 0 = c.over-node.ensures.last in
     let first : (x : ℕ) → cell_in c.over-node.result x ≡ 0 = λ x. omega arith in
-    record {
-      within = λ x l. rw (first x) (omega arith);
-      leads = λ x l b. rw (first x) (leads_to_it c.args.self.now.nodes.items d c.args.self.now.ranges x c.in_ok-own.own c.in_ok-own.ensures (rw (before, after) b));
-    }
+    λ x l. rw (first x) (omega arith, λ b. leads_to_it c.args.self.now.nodes.items d c.args.self.now.ranges x c.in_ok-own.own c.in_ok-own.ensures (rw (before, after) b))

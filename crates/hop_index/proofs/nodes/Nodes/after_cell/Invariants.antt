@@ -1,5 +1,5 @@
-use Rattle.std.proofs.Common.{ℕ, ◌-◌, ◌<◌, ◌≤◌, get_or, option_copied}
-use Rattle.hop_index.specs.Ranges.{HopRange}
+use Rattle.std.proofs.Common.{ℕ, ◌-◌, ◌<◌, ◌≤◌, option_copied}
+use Rattle.hop_index.specs.InnerRanges.{range_at}
 use Rattle.hop_index.specs.InnerNodes.{cell_by}
 use Rattle.hop_index.proofs.nodes.Nodes.after_cell.Given as goal
 
@@ -7,7 +7,7 @@ abbrev pub invariant-loop-place : goal.invariant-loop-place
 invariant-loop-place g l = record {
   least : l.initial.place ≤ l.place;
   most : l.place ≤ l.node.after;
-  inside : (k : ℕ) (d : HopRange) → l.initial.place ≤ k → k < l.place → cell_by g.N.Key.width (option_copied l.tops) l.node (get_or l.self.ranges k d).last ≤ l.cell;
+  inside : (k : ℕ) → l.initial.place ≤ k → k < l.place → cell_by g.N.Key.width (option_copied l.tops) l.node (range_at l.self.ranges k).last ≤ l.cell;
 }
 
 abbrev pub decreases-loop-place : goal.decreases-loop-place

@@ -1,6 +1,8 @@
-use Rattle.std.proofs.Common.{◌≡◌, ◌+◌, ◌^◌, [], ◌∷◌, ◌++◌, List, Some, length, ap, ◌∙◌, arith}
+use Rattle.std.proofs.Common.{◌≡◌, ◌+◌, ◌<◌, ◌^◌, [], ◌∷◌, ◌++◌, List, Some, ap, ◌∙◌, arith}
+use Rattle.std.proofs.lemmas.List.Elements.{All-push}
 use Rattle.hop_index.specs.Ranges.{HopRange}
-use Rattle.hop_index.proofs.Searches.{below_later, push_ascends, push_below, push_inside, push_outside}
+use Rattle.hop_index.specs.InnerRanges.{EndBelow}
+use Rattle.hop_index.proofs.Searches.{below_later, push_ascends, push_inside, push_outside}
 use Rattle.hop_index.proofs.ranges.Ranges.add.Goals as goal
 
 pub returns : goal.returns
@@ -9,13 +11,13 @@ returns g c =
     let r : HopRange = record { last = c.args.last; hop = Some c.args.hop } in
     let i = c.in_ok-reach.ensures in
     let some = c.requires.some in
-    let below = below_later rs c.args.first (c.args.last + 1) (length rs) (omega arith) i.below in
-    let is : c.push.new.self ≡ rs ++ r ∷ [] = rw (ap g.N.Key.number c.from_bits.ensures ∙ g.met.N.Key.numbered c.args.last c.requires.within) at c.in_ok-push.ensures in
     let within = c.requires.within in
+    let below : EndBelow (c.args.last + 1) rs = below_later rs _ _ (omega arith) i.below in
+    let is : c.push.new.self ≡ rs ++ r ∷ [] = rw (ap g.N.Key.number c.from_bits.ensures ∙ g.met.N.Key.numbered c.args.last within) at c.in_ok-push.ensures in
     rw is (record {
       ascending = push_ascends rs r i.ascending below;
-      below = push_below rs r (c.args.last + 1) below (omega arith);
-      within = push_below rs r (2 ^ g.N.Key.width) (below_later rs c.args.first (2 ^ g.N.Key.width) (length rs) (omega arith) i.below) (omega arith);
-      inside = push_inside rs c.args.first c.args.last c.args.hop i.below;
-      outside = λ x out. push_outside rs c.args.first c.args.last c.args.hop i.below i.reached x out ∙ i.hops x;
+      below = All-push (λ s. s.last < c.args.last + 1) rs r below (omega arith);
+      within = All-push (λ s. s.last < 2 ^ g.N.Key.width) rs r (below_later rs _ _ (omega arith) i.below) within;
+      inside = push_inside rs c.args.first r i.below;
+      outside = λ x out. push_outside rs c.args.first r i.below i.reached x out ∙ i.hops x;
     })

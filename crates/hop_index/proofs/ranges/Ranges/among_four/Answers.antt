@@ -1,53 +1,45 @@
-use Rattle.std.proofs.Common.{◌≡◌, ℕ, ◌+◌, ◌<◌, ◌≤◌, inl, inr, ⊎_elim, List, None, length, get_or, subst, arith}
+use Rattle.std.proofs.Common.{rules, ◌≡◌, ℕ, ◌+◌, ◌<◌, ◌≤◌, List, subst, arith}
 use Rattle.hop_index.specs.Ranges.{HopRange}
-use Rattle.hop_index.specs.InnerRanges.{EndsFrom}
-use Rattle.hop_index.proofs.Searches.{below_by_head, ends_below, ends_from, fewer_below, from_head}
+use Rattle.hop_index.specs.InnerRanges.{head_of, range_at}
+use Rattle.hop_index.proofs.Searches.{below_by_head, from_head, head_ascends, lowered, no_lower, raised}
 use Rattle.hop_index.proofs.ranges.Ranges.among_four.Goals as goal
 use Rattle.hop_index.proofs.ranges.Ranges.among_four.Goals.{then-head, else-head, then-width-le64-via-then-width-le64, then-width-le64-via-else-width-le64+then-count-low, then-width-le64-via-else-width-le64+else-count-low+then-head-2}
-
-none : HopRange
-none = record { last = 0; hop = None }
 
 pub loop-step-preserved : goal.loop-step-preserved
 loop-step-preserved g c =
     let rs : List HopRange = c.args.self.now in
     let y : ℕ = g.N.Key.number c.args.number in
+    let count : ℕ = c.loop-step.count in
     let at : ℕ = c.args.low + c.loop-step.step in
-    let last : ℕ = (get_or rs at none).last in
-    let within : at < length rs = let w = c.requires.high.within in omega arith in
     let i = c.loop-step.invariant in
+    let within = c.requires.between.within in
     elim c.if-head.branch [
       | then-head w ↦
-          let less : last < y = below_by_head g.N.Key.width last y (omega (arith, w.if-head.true, c.head.ensures none, c.head-head.ensures.head)) in
+          let less : head_of g.N.Key.width (range_at rs at).last < head_of g.N.Key.width y = omega (arith, w.if-head.true, c.head.ensures, c.head-head.ensures.head) in
+          let later : head_of g.N.Key.width (range_at rs count).last ≤ head_of g.N.Key.width (range_at rs at).last = head_ascends g.N.Key.width _ _ (no_lower rs c.requires.ascending count at i.most (omega arith)) in
+          let same : count ≡ at = grind (arith, i.from, i.most) in
           rw w.count-is (record {
-            high = let h = i.high in omega arith;
-            below = fewer_below rs y (c.loop-step.count + 1) (at + 1) (let h = i.high in omega arith) (ends_below rs y at none c.requires.ascending within less);
-            from = λ whole. ⊎_elim (λ e. inl (omega arith)) (λ f. absurd (let a : y ≤ last = f.from at none i.high within in omega arith)) (i.from whole);
+            most = omega arith;
+            between = raised rs y count (c.args.low + 4) (count + 1) (omega arith) (λ k from to. let here : at ≡ k = omega arith in subst (λ m. (range_at rs m).last < y) here (below_by_head g.N.Key.width _ y less)) i.between;
+            from = λ more. absurd (omega arith);
           })
       | else-head w ↦
-          rw w.count-is (record {
-            high = let h = i.high in omega arith;
-            below = i.below;
-            from = λ whole. inr (⊎_elim
-                (λ e.
-                let more : y ≤ last = from_head g.N.Key.width y last whole (omega (arith, w.if-head.false, c.head.ensures none, c.head-head.ensures.head)) in
-                subst (EndsFrom rs y) (omega arith) (ends_from rs y at none c.requires.ascending within more))
-                (λ f. f)
-                (i.from whole));
-          })
+          let here : head_of g.N.Key.width y ≤ head_of g.N.Key.width (range_at rs at).last = omega (arith, w.if-head.false, c.head.ensures, c.head-head.ensures.head) in
+          let from : count < at + 1 → head_of g.N.Key.width y ≤ head_of g.N.Key.width (range_at rs count).last = λ more. grind (arith, i.from, i.most, here) in
+          rw w.count-is (search (rules, from))
     ]
 
-pub returns-then-width-le64-clause-from : goal.returns-then-width-le64-clause-from
-returns-then-width-le64-clause-from g c =
+pub returns-then-width-le64 : goal.returns-then-width-le64
+returns-then-width-le64 g c =
     let rs : List HopRange = c.args.self.now in
     let y : ℕ = g.N.Key.number c.args.number in
     let count : ℕ = c.loop-step.count in
-    let high : count ≡ c.args.low + 4 → EndsFrom rs y count = λ e. subst (EndsFrom rs y) (omega arith) c.requires.high in
-    elim c.then-width-le64.branch [
-      | then-width-le64-via-then-width-le64 w ↦ ⊎_elim (λ e. high (omega arith)) (λ f. f) (c.loop-step.invariant.from (omega (arith, w.if-width-le64.true, c.width.ensures)))
-      | then-width-le64-via-else-width-le64+then-count-low w ↦ high (omega (arith, w.if-count-low.true))
+    let last : ℕ = (range_at rs count).last in
+    let i = c.loop-step.invariant in
+    lowered rs c.requires.ascending y count (c.args.low + 4) count (omega arith) i.between.order (λ less. elim c.then-width-le64.branch [
+      | then-width-le64-via-then-width-le64 w ↦ from_head g.N.Key.width y last (omega (arith, w.if-width-le64.true, c.width.ensures)) (i.from (omega arith))
+      | then-width-le64-via-else-width-le64+then-count-low w ↦ absurd (omega (arith, w.if-count-low.true))
       | then-width-le64-via-else-width-le64+else-count-low+then-head-2 w ↦
-          let within : count < length rs = let h = c.loop-step.invariant.high in let i = c.requires.high.within in let n = w.if-count-low.false in omega arith in
-          let less : y < (get_or rs count none).last = below_by_head g.N.Key.width y (get_or rs count none).last (omega (arith, w.if-head-2.true, w.head-else-count-low.ensures none, c.head-head.ensures.head)) in
-          ends_from rs y count none c.requires.ascending within (omega arith)
-    ]
+          let above : y < last = below_by_head g.N.Key.width y last (omega (arith, w.if-head-2.true, w.head-else-count-low.ensures, c.head-head.ensures.head)) in
+          omega arith
+    ]) i.between
