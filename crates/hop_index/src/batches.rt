@@ -109,8 +109,7 @@ fn list_nodes(entries: &[u32], places: &mut [usize]) -> usize
     count
 }
 
-/// Of the first `count` places, stores those of entries that are still nodes first, and returns their number. No branch depends on an
-/// entry.
+/// Keeps, in front, those of the first `count` places whose entries are still nodes. Returns their number. No branch depends on an entry.
 fn keep_nodes(entries: &[u32], places: &mut [usize], count: usize) -> usize
     requires { ArePlaces (length entries.now) count places.old }
     ensures { ArePlaces (length entries.now) result places.new }
