@@ -868,7 +868,7 @@ def objects_alone(chain, batch, networks):
     """The kernel sends no gateways of objects any more."""
     for mode, words in ((0, "nhid 3"), (1, "nexthop via 192.0.2.8 dev lan nexthop via 192.0.2.9 dev lan")):
         tool("ip", "netns", "exec", chain.own, "sysctl", "-qw", f"net.ipv4.nexthop_compat_mode={mode}")
-        batch(f"route replace {network} nhid 3" for network in networks)
+        batch(f"route replace {network} {how}" for how in ("via 192.0.2.7", "nhid 3") for network in networks)
         chain.comes_to(f"routes over an object in compat mode {mode}", {network: {words: 65535} for network in networks})
         settled_to(chain, "the same, by `ip`")
 
