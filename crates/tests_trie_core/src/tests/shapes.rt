@@ -3,10 +3,10 @@
 ghost use Rattle.std.specs.Prelude.{◌≡◌, length};
 ghost use Rattle.shape.specs.Shapes.{shape_values};
 
-use crate::tests::maps::step_is;
 use crate::tests::shapes::Step::{Child, ChildWritten, NoChild, NoValue, Value, ValueWritten};
 use shape::{Items, OwnedValues, Shape};
 use std::alloc::Global;
+use std::fmt::Debug;
 use std::process::Abort;
 
 /// A shape of boxes.
@@ -31,6 +31,11 @@ enum Step {
 
 /// A call, and the values and the children after it, as digits.
 type Row = (Step, u32, u32);
+
+/// Checks that `found` is `wanted`. If not, the message contains the name of the script and the number of steps before this one.
+fn step_is<T: Copy + PartialEq + Debug>(rt: &impl Abort, at: (&str, usize), found: T, wanted: T) {
+    assert_eq!(rt; found, wanted, "{}, after {} steps", at.0, at.1);
+}
 
 /// The numbers as digits after a 1.
 fn digits(boxes: &[Box<u32>]) -> u32 {
