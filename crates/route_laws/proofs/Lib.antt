@@ -11,7 +11,6 @@ pub mod Bounds
 pub mod Changes
 pub mod Alterations
 pub mod Overwritten
-pub mod Paging
 pub mod FlatBounds
 pub mod Listed
 pub mod TableHops
