@@ -14,7 +14,7 @@ use Rattle.route_laws.specs.Tables.{Route, IsTable, hop_at, match_number, match_
 use Rattle.route_laws.proofs.Insides.{within, within_gives, sound, few, joined_table, joined_first, joined_second}
 
 -- tables with equal hops have the same least tables
-hops_moved : (g h : Address → Option ℕ) → ((x : Address) → IsAddress x → g x ≡ h x) → (N : List Route) → HasHops g N → HasHops h N
+pub hops_moved : (g h : Address → Option ℕ) → ((x : Address) → IsAddress x → g x ≡ h x) → (N : List Route) → HasHops g N → HasHops h N
 hops_moved g h same N k = record { table = k.table; same = λ x a. k.same x a ∙ same x a }
 
 pub least_too : (g h : Address → Option ℕ) → ((x : Address) → IsAddress x → g x ≡ h x) → (N : List Route) → IsLeast g N → IsLeast h N

@@ -39,6 +39,9 @@ table_of M k up = record {
   ascending = pairs_from_Rising Sooner M up;
 }
 
+pub empty_is_table : IsTable []
+empty_is_table = table_of [] (λ r i. absurd i) tt
+
 -- what passes a test, of a table
 pub table_kept : (p : Route → Bool) (M : List Route) → IsTable M → IsTable (filter p M)
 table_kept p M t = record { blocks = All-filter p (λ r. IsBlock r.block) M t.blocks; hops = All-filter p (λ r. IsHop r.hop) M t.hops; ascending = AllPairs-filter Sooner p M t.ascending }

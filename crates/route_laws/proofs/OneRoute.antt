@@ -15,16 +15,13 @@ use Rattle.route_choices.specs.declared.hop.Hop.TheVariants.{Number}
 use Rattle.route_laws.specs.Changes.{changed}
 use Rattle.route_laws.specs.Flats.{Piece, IsFlat, flat_of}
 use Rattle.route_laws.specs.Laws.{one_route}
-use Rattle.route_laws.specs.Tables.{Route, IsTable, Changed, Governed, hop_at}
+use Rattle.route_laws.specs.Tables.{Route, Changed, Governed, hop_at}
 use Rattle.route_laws.proofs.Alterations.{blocks_of_add}
 use Rattle.route_laws.proofs.Changes.{changed_is_maximal}
 use Rattle.route_laws.proofs.Flats.{Sooner, maximal_one, maximal_same, same_flat}
 use Rattle.route_laws.proofs.FlatSearch.{search_is_flat}
-use Rattle.route_laws.proofs.Insides.{table_of}
+use Rattle.route_laws.proofs.Insides.{empty_is_table}
 use Rattle.route_laws.proofs.Overwritten.{over_hops}
-
-none_is_table : IsTable []
-none_is_table = table_of [] (λ r i. absurd i) tt
 
 module _ (b : Block) (ok : IsBlock b) where
   -- the addresses of a block have one maximal block
@@ -46,14 +43,14 @@ module _ (b : Block) (ok : IsBlock b) where
 
     -- one route in the place of none
     pub hops_of_one : (x : Address) → IsAddress x → hop_at (one_route b k) x ≡ cond (has_address b x) (Some k) None
-    hops_of_one = over_hops [] none_is_table route ok fits
+    hops_of_one = over_hops [] empty_is_table route ok fits
 
     told : (x : Address) → IsAddress x → (n : ℕ) → hop_at (one_route b k) x ≡ Some n → HasAddress b x × (k ≡ n)
     told x a n e = let t = cond_some (has_address b x) k n (sym (hops_of_one x a) ∙ e) in (has_from_test b x t.0, t.1)
 
     pub one_is_changed : maximal_of (changed [] (one_route b k)) ≡ b ∷ []
     one_is_changed = maximal_is_unique (Changed [] (one_route b k)) (maximal_of (changed [] (one_route b k))) (b ∷ []) (changed_is_maximal [] (one_route b k))
-        ((blocks_of_add [] none_is_table route ok fits (b ∷ []) (blocks_same (HasAddress b) (Governed [] b) (λ x a h. record { inside = h; free = λ r c l i. In-from_Contains [] r c }) (λ x a g. g.inside) (b ∷ []) one_block)).0 (none-some k))
+        ((blocks_of_add [] empty_is_table route ok fits (b ∷ []) (blocks_same (HasAddress b) (Governed [] b) (λ x a h. record { inside = h; free = λ r c l i. In-from_Contains [] r c }) (λ x a g. g.inside) (b ∷ []) one_block)).0 (none-some k))
 
     top_for : (n : ℕ) → k ≡ n → IsMaximalBlock (λ x. hop_at (one_route b k) x ≡ Some n) b
     top_for n e = maximal_same (HasAddress b) (λ x. hop_at (one_route b k) x ≡ Some n) (λ x a h. hops_of_one x a ∙ cond-true (has_address b x) (Some k) None (test_from_has b x h) ∙ ap (λ i. Some i) e) (λ x a s. (told x a n s).0) b is_top

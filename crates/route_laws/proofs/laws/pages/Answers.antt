@@ -33,13 +33,16 @@ module _ (M : List Route) (m : IsTable M) (n : Block) where
 
   -- what comes after one of the routes from n on is the rest of them
   after_is_rest : (xs : List Route) (r : Route) (ys : List Route) → routes_from M n ≡ xs ++ r ∷ ys → routes_after M r.block ≡ ys
-  after_is_rest xs r ys e = same_rising Sooner (λ s t. strict s.block t.block) (routes_after M r.block) ys (Rising-kept Sooner later M (rising M m)) right.1
+  after_is_rest xs r ys e = same_rising Sooner (λ s t. strict s.block t.block) (routes_after M r.block) ys
+      (Rising-kept Sooner later M (rising M m)) right.1
       (λ s i.
       let t = In-from_filter later M s i in
       let q = and_parts _ _ t.1 in
       let l = before_from_test r.block s.block q.1 in
-      let in_all = In-filter onwards M s t.0 (and_from _ _ (test_from_family s.block.family n.family (family_from_test s.block.family r.block.family q.0 ∙ family r here))
-      (not_from (is_before s.block n) (λ b. not_cases (is_before r.block n) (and_parts _ _ (In-from_filter onwards M r (held r here)).1).1
+      let near = family_from_test s.block.family r.block.family q.0 ∙ family r here in
+      let not_before = (and_parts _ _ (In-from_filter onwards M r (held r here)).1).1 in
+      let in_all = In-filter onwards M s t.0 (and_from _ _ (test_from_family s.block.family n.family near)
+      (not_from (is_before s.block n) (λ b. not_cases (is_before r.block n) not_before
       (test_from_before r.block n (transitive r.block s.block n l (before_from_test s.block n b)))))) in
       ⊎_elim
       (λ k. absurd (strict s.block r.block (rising_cross Sooner xs (r ∷ ys) up s r k (inl refl)) l))
@@ -74,8 +77,10 @@ module _ (M : List Route) (m : IsTable M) (n : Block) where
         (ys : List Route) × (routes_after M (last_of r (take k L)).block ≡ drop k L) × (routes_from M n ≡ ys ++ drop k L)
     next_page xs r L e =
         let t = split_last r (take k L) (drop k L) in
-        let f = e ∙ ap (λ zs. xs ++ r ∷ zs) (sym (take-append-drop k L)) ∙ ap (λ zs. xs ++ zs) t.1 ∙ sym (append_assoc xs t.0 (last_of r (take k L) ∷ drop k L)) in
-        ((xs ++ t.0) ++ last_of r (take k L) ∷ [], after_is_rest (xs ++ t.0) (last_of r (take k L)) (drop k L) f, f ∙ sym (append_assoc (xs ++ t.0) (last_of r (take k L) ∷ []) (drop k L)))
+        let last = last_of r (take k L) in
+        let f : routes_from M n ≡ (xs ++ t.0) ++ last ∷ drop k L =
+        e ∙ ap (λ zs. xs ++ r ∷ zs) (sym (take-append-drop k L)) ∙ ap (λ zs. xs ++ zs) t.1 ∙ sym (append_assoc xs t.0 (last ∷ drop k L)) in
+        ((xs ++ t.0) ++ last ∷ [], after_is_rest (xs ++ t.0) last (drop k L) f, f ∙ sym (append_assoc (xs ++ t.0) (last ∷ []) (drop k L)))
 
     all_pages : (most : ℕ) (xs L : List Route) → routes_from M n ≡ xs ++ L → length L ≤ most → flat_map (λ page. page) (pages_up_to most M (suc k) (take (suc k) L)) ≡ L
     all_pages most xs [] e h = refl
@@ -101,7 +106,9 @@ routes_by_page M n (suc k) m h = all_pages M m n k (length M) [] (routes_from M 
 
 end_is_end : PagesEnd
 end_is_end M n zero more m h = absurd (omega arith)
-end_is_end M n (suc k) more m h = let s = filtered_length (onwards M m n) M in no_more M m n k (length M + more) (length M) [] (routes_from M n) refl (omega arith) s
+end_is_end M n (suc k) more m h =
+    let s = filtered_length (onwards M m n) M in
+    no_more M m n k (length M + more) (length M) [] (routes_from M n) refl (omega arith) s
 
 pub returns : goal.returns
 returns c = record { routes = routes_by_page; end = end_is_end }
