@@ -18,8 +18,7 @@ use Rattle.ipnet_blocks.proofs.Search.{left_is_block, right_is_block, left_insid
 use Rattle.route_laws.specs.Bounds.{excess}
 use Rattle.route_laws.specs.Flats.{Piece, HasOneHop, one_hop_in, piece_or, flat_in}
 use Rattle.route_laws.specs.Tables.{Route, IsTable, Governed}
-use Rattle.route_laws.proofs.Flats.{maximal_same}
-use Rattle.route_laws.proofs.FlatSearch.{complete, located, not_one, sound}
+use Rattle.route_laws.proofs.Flats.{maximal_same, complete, located, not_one, sound}
 use Rattle.route_laws.proofs.Matches.{block_in, bools_same, inside_from_test, same_length, test_from_inside}
 use Rattle.route_laws.proofs.Ordered.{no_members, same_or_not, not_cases, not_from}
 

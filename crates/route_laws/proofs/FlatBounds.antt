@@ -13,8 +13,7 @@ use Rattle.ipnet_blocks.proofs.Search.{whole_is_block}
 use Rattle.route_laws.specs.Bounds.{pieces_in, lengths_in}
 use Rattle.route_laws.specs.Flats.{Piece, IsFlat, flat_in}
 use Rattle.route_laws.specs.Tables.{Route, IsTable, hop_at, match_of, match_number}
-use Rattle.route_laws.proofs.Flats.{Sooner}
-use Rattle.route_laws.proofs.FlatSearch.{in_family, rising_family}
+use Rattle.route_laws.proofs.Flats.{Sooner, in_family, rising_family}
 use Rattle.route_laws.proofs.Matches.{block_in, governed_match}
 use Rattle.route_laws.proofs.Bounds.{Rule, Less, cond_less, count, even, few_by, halves_all, longer_from, none_longer, weight, is_longer}
 use Rattle.route_choices.proofs.Kept.{In-filter, In-from_filter, Rising-kept}
