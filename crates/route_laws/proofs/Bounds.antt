@@ -1,26 +1,29 @@
 -- How many pieces a search finds inside a block: where a block has no hop of its own, some route inside it is longer. So a
 -- block governs few blocks.
-use Rattle.std.proofs.Common.{◌≡◌, ℕ, zero, suc, ◌+◌, ◌-◌, ◌<◌, ◌≤◌, inl, inr, ⊎_elim, ◌&&◌, not, Bool, true, false, cond, nat_lt, List, [], ◌∷◌, ◌++◌, length, sum_by, Option, Some, None, refl, sym, ap, ◌∙◌, subst, arith, length-append}
+use Rattle.std.proofs.Common.{◌≡◌, ℕ, zero, suc, ◌+◌, ◌-◌, ◌<◌, ◌≤◌, inl, inr, ⊎_elim, ◌&&◌, not, Bool, true, false, cond, nat_lt, List, [], ◌∷◌, ◌++◌, length, sum_by, Option, Some, None, refl, sym, ap, ◌∙◌, subst, arith, length-append, filter}
 use Rattle.std.specs.List.{list_any}
 use Rattle.std.proofs.lemmas.Bool.{and_parts, and_from, and_right, cases_lt, cond-false, cond-true, lt-ltb, ltb-true, not_from_true}
 use Rattle.std.proofs.lemmas.List.Sums.{sum_by-cons, sum_by-le-sum_by}
 use Rattle.std.proofs.lemmas.Option.{cond_some, none-some}
-use Rattle.ipnet_addr.specs.Addresses.{Address}
+use Rattle.ipnet_addr.specs.Addresses.{Address, Family, width, same_family}
 use Rattle.ipnet_addr.proofs.Basics.{In-from_list_any, list_any-from_In}
 use Rattle.ipnet_addr.proofs.Members.{In, no_more, one_or_all}
-use Rattle.ipnet_addr.proofs.Ascending.{In-from_Contains, Contains-from_In, Distinct-from_Rising, Rising-from_pairs}
-use Rattle.ipnet_blocks.specs.Blocks.{Block, IsBlock, free_bits, HasAddress, IsBefore, IsInside, IsLarger, has_address, is_inside, first_of, left, right}
+use Rattle.ipnet_addr.proofs.Ascending.{In-from_Contains, Contains-from_In, Distinct-from_Rising, Rising-from_pairs, same_rising}
+use Rattle.ipnet_blocks.specs.Blocks.{Block, IsBlock, free_bits, HasAddress, IsBefore, IsInside, IsLarger, has_address, is_inside, first_of, left, right, family_block}
 use Rattle.ipnet_blocks.specs.Maximal.{IsMaximal}
 use Rattle.ipnet_blocks.proofs.BlockLaws.{has_first, nested, numbers_from_inside, strict}
 use Rattle.ipnet_blocks.proofs.BlockTests.{has_from_test, test_from_has}
 use Rattle.ipnet_blocks.proofs.Parents.{decide_inside, larger_is_shorter}
-use Rattle.ipnet_blocks.proofs.Search.{left_is_block, right_is_block, left_inside, right_inside, halves_in_order, in_a_half}
-use Rattle.route_laws.specs.Bounds.{excess}
-use Rattle.route_laws.specs.Flats.{Piece, HasOneHop, one_hop_in, piece_or, flat_in}
-use Rattle.route_laws.specs.Tables.{Route, IsTable, Governed}
-use Rattle.route_laws.proofs.Flats.{maximal_same, complete, located, not_one, sound}
-use Rattle.route_laws.proofs.Matches.{block_in, bools_same, inside_from_test, same_length, test_from_inside}
+use Rattle.ipnet_blocks.proofs.Search.{left_is_block, right_is_block, left_inside, right_inside, halves_in_order, in_a_half, whole_is_block}
+use Rattle.route_laws.specs.Bounds.{excess, pieces_in, lengths_in}
+use Rattle.route_laws.specs.Flats.{Piece, HasOneHop, one_hop_in, piece_or, flat_in, IsFlat}
+use Rattle.route_laws.specs.Tables.{Route, IsTable, Governed, hop_at, match_of, match_number}
+use Rattle.route_laws.proofs.Flats.{maximal_same, complete, located, not_one, sound, Sooner, in_family, rising_family}
+use Rattle.route_laws.proofs.Matches.{block_in, bools_same, inside_from_test, same_length, test_from_inside, governed_match}
 use Rattle.route_laws.proofs.Ordered.{no_members, same_or_not, not_cases, not_from}
+use Rattle.ipnet_addr.proofs.Families.{family_from_test, test_from_family}
+use Rattle.ipnet_blocks.proofs.Maximals.{member_is_address}
+use Rattle.route_choices.proofs.Kept.{In-filter, In-from_filter, Rising-kept}
 
 -- whether a block lies inside another and is longer by more than d, and by how much more
 unfoldable pub is_longer : ℕ → Block → Block → Bool
@@ -230,3 +233,55 @@ governed_bound M n bs table ok max =
     ))
     (λ a c p i j e f. e ∙ sym f) in
     omega (arith, found, few_by h (λ t. sum_by (weight 1 t) M) n (λ t okt i room. rule M table n ok t okt i room) (free_bits n) n ok (λ x m. m) refl, sum_by-le-sum_by (weight 1 n) (λ r. excess n r.block) M (excess_of n))
+
+-- ---- how many pieces a flat list has: where a block has no hop of its own, some route inside it is longer
+
+module _ (M : List Route) (table : IsTable M) where
+  -- without a longer route inside a block all of it has the hop of its match
+  steady_below : (t : Block) → IsBlock t → sum_by (count 0 t) M ≡ 0 → (x : Address) → HasAddress t x → hop_at M x ≡ match_number (match_of M t)
+  steady_below t ok e x m = ap match_number (governed_match M table t ok x (member_is_address t x ok m) (record {
+    inside = m;
+    free = λ r c l has.
+        let i = In-from_Contains M r c in
+        let s = larger_is_shorter t r.block ok (block_in M table r i) l in
+        none_longer 0 t M e r i (longer_from 0 t r.block ok (block_in M table r i) l.0 (omega arith));
+  }))
+
+  few_pieces : (k : ℕ) (t : Block) → IsBlock t → free_bits t ≡ k → length (flat_in (hop_at M) k t) ≤ 1 + sum_by (weight 0 t) M
+  few_pieces k n okn = few_by (hop_at M) (λ t. sum_by (weight 0 t) M) n (λ t ok i room. by t ok room (sum_by (count 0 t) M) refl) k n okn (λ x m. m)
+    where
+      by : (t : Block) → IsBlock t → 0 < free_bits t → (c : ℕ) → sum_by (count 0 t) M ≡ c → Rule (hop_at M) (λ t. sum_by (weight 0 t) M) t
+      by t ok room zero z = even (hop_at M) (λ t. sum_by (weight 0 t) M) t ok (match_number (match_of M t)) (steady_below t ok z)
+      by t ok room (suc c) z = Less (omega (arith, z, halves_all 0 t ok room M (block_in M table)))
+
+-- ---- the pieces of a family
+
+kept_sum : {X : Type 0} (f : X → ℕ) (p : X → Bool) (xs : List X) → sum_by (λ x. cond (p x) (f x) 0) xs ≡ sum_by f (filter p xs)
+kept_sum f p [] = refl
+kept_sum f p (x ∷ xs) = sum_by-cons (λ x. cond (p x) (f x) 0) x xs ∙ ap (λ n. cond (p x) (f x) 0 + n) (kept_sum f p xs) ∙ by (p x)
+  where
+    by : (b : Bool) → cond b (f x) 0 + sum_by f (filter p xs) ≡ sum_by f (cond b (x ∷ filter p xs) (filter p xs))
+    by true = let s = sum_by-cons f x (filter p xs) in omega arith
+    by false = omega arith
+
+-- the weight inside a whole family is at most the length of a route of it
+weight_of : (f : Family) (r : Route) → weight 0 (family_block f) r ≤ cond (same_family r.block.family f) r.block.len 0
+unfolding weight is_longer
+weight_of f r = cond_less (is_inside r.block (family_block f) && nat_lt (0 + 0) r.block.len) (same_family r.block.family f) (r.block.len - (0 + 0)) r.block.len
+    (λ e. (and_parts _ _ (and_parts _ _ (and_parts (is_inside r.block (family_block f)) (nat_lt (0 + 0) r.block.len) e).0).0).0) (omega arith)
+
+-- the pieces of a flat list in one family are those that a search of the family finds
+pub flat_bound : (M : List Route) → IsTable M → (ps : List Piece) → IsFlat (hop_at M) ps → (f : Family) → length (pieces_in f ps) ≤ 1 + lengths_in f M
+flat_bound M table ps flat f =
+    let of : Piece → Bool = λ p. same_family p.block.family f in
+    let same : pieces_in f ps ≡ flat_in (hop_at M) (width f) (family_block f) =
+    same_rising Sooner (λ p q. strict p.block q.block) (pieces_in f ps) (flat_in (hop_at M) (width f) (family_block f)) (Rising-kept Sooner of ps (Rising-from_pairs Sooner ps flat.ascending)) (rising_family (hop_at M) f)
+    (λ p i. let t = In-from_filter of ps p i in (in_family (hop_at M) f p).1 ((flat.exact p).0 (Contains-from_In ps p t.0), family_from_test p.block.family f t.1))
+    (λ p i. let t = (in_family (hop_at M) f p).0 i in In-filter of ps p (In-from_Contains ps p ((flat.exact p).1 t.0)) (test_from_family p.block.family f t.1)) in
+    omega (
+      arith,
+      ap length same,
+      few_pieces M table (width f) (family_block f) (whole_is_block f) (omega arith),
+      sum_by-le-sum_by (weight 0 (family_block f)) (λ r. cond (same_family r.block.family f) r.block.len 0) M (weight_of f),
+      kept_sum (λ (r : Route). r.block.len) (λ r. same_family r.block.family f) M,
+    )

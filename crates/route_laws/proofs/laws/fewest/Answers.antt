@@ -1,6 +1,6 @@
 use Rattle.route_laws.proofs.Families.{least_is_fewest}
 use Rattle.route_laws.proofs.Fewest.{fewest_of_host, from_lesser, to_lesser}
-use Rattle.route_laws.proofs.TableHops.{given_hops, hops_of_table}
+use Rattle.route_laws.proofs.FlatTables.{given_hops, hops_of_table}
 use Rattle.route_laws.proofs.laws.fewest.Goals as goal
 
 pub returns : goal.returns
