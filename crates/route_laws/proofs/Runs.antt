@@ -5,8 +5,7 @@ use Rattle.route_laws.specs.Nearest.{IsNearest}
 use Rattle.route_laws.specs.OperationLaws.{GivenReaches, GivesHitless, GivesWhatItSays, KeepsHops, SyncIsLeast, SyncIsUnseen, SyncStays, ToldIsFewest}
 use Rattle.route_laws.specs.LeastTables.{HasHops}
 use Rattle.route_laws.specs.Tables.{Route, IsTable, hop_at, with_route}
-use Rattle.route_laws.proofs.Families.{hops_moved, least_too}
-use Rattle.route_laws.proofs.Insides.{empty_is_table}
+use Rattle.route_laws.proofs.Insides.{hops_moved, least_too, empty_is_table}
 use Rattle.route_laws.proofs.Updates.{added_is_table}
 use Rattle.route_laws.specs.Operations.{IsHitless, Operation, after_all, between}
 use Rattle.route_laws.specs.Painted.{AreChanges, hop_over, painted_all}

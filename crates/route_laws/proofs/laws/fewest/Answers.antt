@@ -1,5 +1,4 @@
-use Rattle.route_laws.proofs.Families.{least_is_fewest}
-use Rattle.route_laws.proofs.Fewest.{fewest_of_host, from_lesser, to_lesser}
+use Rattle.route_laws.proofs.Insides.{least_is_fewest, fewest_of_host, from_lesser, to_lesser}
 use Rattle.route_laws.proofs.FlatTables.{given_hops, hops_of_table}
 use Rattle.route_laws.proofs.laws.fewest.Goals as goal
 
