@@ -23,6 +23,5 @@ pub mod Turning
 pub mod Between
 pub mod Painted
 pub mod Inherited
-pub mod FewestOperations
 pub mod Nearest
 pub mod Runs

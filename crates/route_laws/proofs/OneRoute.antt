@@ -16,8 +16,7 @@ use Rattle.route_laws.specs.Changes.{changed}
 use Rattle.route_laws.specs.Flats.{Piece, IsFlat, flat_of}
 use Rattle.route_laws.specs.Laws.{one_route}
 use Rattle.route_laws.specs.Tables.{Route, Changed, Governed, hop_at}
-use Rattle.route_laws.proofs.Alterations.{blocks_of_add}
-use Rattle.route_laws.proofs.Changes.{changed_is_maximal}
+use Rattle.route_laws.proofs.Alterations.{blocks_of_add, changed_is_maximal}
 use Rattle.route_laws.proofs.Flats.{Sooner, maximal_one, maximal_same, same_flat, search_is_flat}
 use Rattle.route_laws.proofs.Insides.{empty_is_table}
 use Rattle.route_laws.proofs.Overwritten.{over_hops}

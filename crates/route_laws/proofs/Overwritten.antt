@@ -18,7 +18,7 @@ use Rattle.route_laws.specs.Fewest.{inherited, hop_under}
 use Rattle.route_laws.specs.Overwritten.{without_inside, overwritten}
 use Rattle.route_laws.specs.Tables.{Route, IsTable, longer, longest, match_of, hop_at, with_route}
 use Rattle.route_laws.proofs.Insides.{hop_is, Sooner, filter_again, has_from_test as held_from_test, table_kept}
-use Rattle.route_laws.proofs.Updates.{match_after_add, added_is_table}
+use Rattle.route_laws.proofs.Alterations.{match_after_add, added_is_table}
 use Rattle.route_laws.specs.Networks.{IsLeaf, Stored, IsStoredTable, best_route, networks_outside, overwritten_by, routes_of}
 use Rattle.route_laws.proofs.Matches.{block_in, governed_match, inside_from_test, match_of_own, test_from_inside}
 use Rattle.route_laws.proofs.Networks.{routes_with, stored_block, stored_kept}

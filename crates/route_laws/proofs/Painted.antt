@@ -15,7 +15,7 @@ use Rattle.route_laws.specs.Changes.{same_number}
 use Rattle.route_laws.specs.Overwritten.{overwritten, without_inside}
 use Rattle.route_laws.specs.Painted.{AreChanges, changes_to, hop_over, painted, painted_all}
 use Rattle.route_laws.specs.Tables.{Route, IsTable, match_of, match_number, hop_at}
-use Rattle.route_laws.proofs.Changes.{same_from_test}
+use Rattle.route_laws.proofs.Alterations.{same_from_test}
 use Rattle.route_laws.proofs.Matches.{governed_match}
 use Rattle.route_laws.proofs.Overwritten.{outside_back, outside_is_table, outside_match, over_hops, over_is_table, routes_placed}
 

@@ -6,15 +6,13 @@ use Rattle.route_laws.specs.OperationLaws.{GivenReaches, GivesHitless, GivesWhat
 use Rattle.route_laws.specs.LeastTables.{HasHops}
 use Rattle.route_laws.specs.Tables.{Route, IsTable, hop_at, with_route}
 use Rattle.route_laws.proofs.Insides.{hops_moved, least_too, empty_is_table}
-use Rattle.route_laws.proofs.Updates.{added_is_table}
+use Rattle.route_laws.proofs.Alterations.{added_is_table}
 use Rattle.route_laws.specs.Operations.{IsHitless, Operation, after_all, between}
 use Rattle.route_laws.specs.Painted.{AreChanges, hop_over, painted_all}
 use Rattle.route_laws.specs.Runs.{Event, Have, Told, Sync, Installer, IsMade, MayCome, MayAllCome, after_event, after_events, given, gives, start, told, with_haves}
-use Rattle.route_laws.proofs.Between.{after-append, between_hitless, between_reaches}
-use Rattle.route_laws.proofs.FewestOperations.{fewest}
-use Rattle.route_laws.proofs.Nearest.{nearest_is_fewest}
+use Rattle.route_laws.proofs.Between.{after-append, between_hitless, between_reaches, hitless_from}
+use Rattle.route_laws.proofs.Nearest.{fewest, nearest_is_fewest}
 use Rattle.route_laws.proofs.Painted.{changes_from, painted_all_hops, painted_all_is_table}
-use Rattle.route_laws.proofs.Turning.{hitless_from}
 
 -- a state in which h was told
 pub record Holds (h : Address → Option ℕ) (s : Installer) : Type 0 where

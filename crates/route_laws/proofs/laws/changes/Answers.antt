@@ -3,10 +3,8 @@ use Rattle.ipnet_blocks.specs.Maximal.{maximal_of}
 use Rattle.ipnet_blocks.proofs.Maximals.{maximal_is_shortest, shortest_is_maximal, maximal_is_unique}
 use Rattle.route_laws.specs.Changes.{changed}
 use Rattle.route_laws.specs.Tables.{Changed, with_route, without_block}
+use Rattle.route_laws.proofs.Alterations.{added_is_table, left_is_table, changed_is_maximal, added_change, added_number, left_change, lines_by}
 use Rattle.route_laws.proofs.laws.changes.Goals as goal
-use Rattle.route_laws.proofs.Updates.{added_is_table, left_is_table}
-use Rattle.route_laws.proofs.Changes.{changed_is_maximal}
-use Rattle.route_laws.proofs.Alterations.{added_change, added_number, left_change, lines_by}
 
 pub returns : goal.returns
 returns c = record {
