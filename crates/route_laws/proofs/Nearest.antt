@@ -17,9 +17,8 @@ use Rattle.route_choices.specs.Hops.{IsHop, number_of}
 use Rattle.route_laws.specs.Changes.{same_number}
 use Rattle.route_laws.specs.Overwritten.{overwritten, without_inside}
 use Rattle.route_laws.proofs.Matches.{block_in, test_from_inside}
-use Rattle.route_laws.proofs.Overwritten.{outside_back, outside_other, over_back, over_other, routes_placed}
+use Rattle.route_laws.proofs.Overwritten.{outside_back, outside_other, over_back, over_other, routes_placed, Changes, painted_all_is_table, painted_is_table, changes_from}
 use Rattle.route_laws.specs.Painted.{most_operations, painted, painted_all, strictly_inside}
-use Rattle.route_laws.proofs.Painted.{Changes, painted_all_is_table, painted_is_table, changes_from}
 use Rattle.std.proofs.lemmas.List.{length-map, length-reverse}
 use Rattle.route_laws.specs.LeastTables.{HasHops, IsLeast}
 use Rattle.route_laws.specs.Nearest.{IsFewestTo, IsNearest, FewestIsNearest, LeastIsNearest, NearestIsBounded, NearestIsFewest, NearestIsHitless, UpdatesAreBounded, UpdatesAreFewest, UpdatesAreHitless}

@@ -1,10 +1,10 @@
 -- One thing in the place of all those inside its block: its members, how it is made, and the hops of a table then.
-use Rattle.std.proofs.Common.{◌≡◌, ◌<◌, ◌⊎◌, inl, inr, ⊎_elim, Bool, false, not, cond, List, [], ◌∷◌, filter, ℕ, Option, None, Some, IsTrue, true, refl, ◌↔◌, sym, ap, ◌∙◌, subst, arith}
+use Rattle.std.proofs.Common.{◌≡◌, ◌<◌, ◌⊎◌, inl, inr, ⊎_elim, Bool, false, not, cond, List, [], ◌∷◌, filter, ℕ, Option, None, Some, IsTrue, true, refl, ◌↔◌, sym, ap, ◌∙◌, subst, arith, ◌-◌}
 use Rattle.std.proofs.lemmas.Bool.{cond-false, false_from_ne_true, cond_both, cases_lt}
 use Rattle.ipnet_addr.specs.Addresses.{Address, IsAddress}
 use Rattle.ipnet_addr.proofs.Members.{In}
-use Rattle.ipnet_addr.proofs.Ascending.{In-from_Contains, Contains-from_In, Rising, Rising-from_pairs, same_rising}
-use Rattle.ipnet_blocks.specs.Blocks.{Block, IsBlock, HasAddress, IsInside, IsLarger, free_bits, is_inside, has_address, host, left, right}
+use Rattle.ipnet_addr.proofs.Ascending.{In-from_Contains, Contains-from_In, Rising, Rising-from_pairs, same_rising, All-from_In, In-from_All}
+use Rattle.ipnet_blocks.specs.Blocks.{Block, IsBlock, HasAddress, IsInside, IsLarger, free_bits, is_inside, has_address, host, left, right, parent}
 use Rattle.ipnet_blocks.proofs.BlockLaws.{numbers_from_inside, same_sets, strict}
 use Rattle.ipnet_blocks.proofs.BlockTests.{has_from_test, test_from_has}
 use Rattle.ipnet_blocks.proofs.Maximals.{host_is_block}
@@ -12,17 +12,23 @@ use Rattle.ipnet_blocks.proofs.Search.{left_is_block, right_is_block, left_insid
 use Rattle.ipnet.specs.IpNets.{block}
 use Rattle.ipnet.specs.declared.ip_net.IpNet.{IpNet}
 use Rattle.route_choices.specs.Hops.{IsHop, number_of}
-use Rattle.route_choices.specs.Choices.{Choice}
-use Rattle.route_choices.proofs.Kept.{Rising-kept, filter_map_swap, In-from_filter, In-filter}
+use Rattle.route_choices.specs.Choices.{Choice, default_preference}
+use Rattle.route_choices.proofs.Kept.{Rising-kept, filter_map_swap, In-from_filter, In-filter, none_kept, same_kept}
 use Rattle.route_laws.specs.Fewest.{inherited, hop_under}
 use Rattle.route_laws.specs.Overwritten.{without_inside, overwritten}
-use Rattle.route_laws.specs.Tables.{Route, IsTable, longer, longest, match_of, hop_at, with_route}
+use Rattle.route_laws.specs.Tables.{Route, IsTable, longer, longest, match_of, hop_at, with_route, match_number}
 use Rattle.route_laws.proofs.Insides.{hop_is, Sooner, filter_again, has_from_test as held_from_test, table_kept}
-use Rattle.route_laws.proofs.Alterations.{match_after_add, added_is_table}
+use Rattle.route_laws.proofs.Alterations.{match_after_add, added_is_table, same_from_test}
 use Rattle.route_laws.specs.Networks.{IsLeaf, Stored, IsStoredTable, best_route, networks_outside, overwritten_by, routes_of}
-use Rattle.route_laws.proofs.Matches.{block_in, governed_match, inside_from_test, match_of_own, test_from_inside}
+use Rattle.route_laws.proofs.Matches.{block_in, governed_match, inside_from_test, match_of_own, test_from_inside, bools_same}
 use Rattle.route_laws.proofs.Networks.{routes_with, stored_block, stored_kept}
 use Rattle.route_laws.proofs.Ordered.{Earlier, put, put_back, put_itself, put_other, put_rises, not_cases, not_from, alone}
+use Rattle.std.proofs.lemmas.List.Elements.{All-map}
+use Rattle.ipnet_blocks.specs.Maximal.{IsMaximal, IsMaximalBlock}
+use Rattle.route_choices.specs.declared.hop.Hop.{Hop}
+use Rattle.route_laws.specs.Changes.{same_number}
+use Rattle.route_laws.specs.Painted.{AreChanges, changes_to, hop_over, painted, painted_all}
+use Rattle.ipnet_blocks.proofs.Parents.{inside_parent, larger_is_shorter, parent_in_larger, parent_is_block}
 
 -- a block is in none that is longer, as its halves are
 not_in_longer : (b c : Block) → IsBlock b → IsBlock c → b.len < c.len → IsInside b c → ⊥
@@ -194,3 +200,90 @@ module _ (M : List Route) (m : IsTable M) (r : Route) (ok : IsBlock r.block) whe
 
   pub over_hops : IsHop r.hop → (x : Address) → IsAddress x → hop_at (overwritten M r) x ≡ cond (has_address r.block x) (number_of r.hop) (hop_at M x)
   over_hops hop x a = sym (hop_is (overwritten M r) x) ∙ over_under hop None x a ∙ ap (cond (has_address r.block x) (number_of r.hop)) (hop_is M x)
+
+-- ---- tables all of whose addresses of a block got one hop, by one change or by several
+
+module _ (M : List Route) (m : IsTable M) (r : Route) (ok : IsBlock r.block) where
+  out : IsTable (without_inside M r.block)
+  out = outside_is_table M m r ok
+
+  -- what the routes outside hand down
+  handed_down : (x : Address) → IsAddress x → HasAddress r.block x → hop_at (without_inside M r.block) x ≡ match_number (match_of (without_inside M r.block) r.block)
+  handed_down x a h = ap match_number (governed_match (without_inside M r.block) out r.block ok x a (record {
+    inside = h;
+    free = λ u c l k. (outside_back Route.block M (routes_placed M m) r.block ok u (In-from_Contains (without_inside M r.block) u c)).1 l.0;
+  }))
+
+  pub painted_is_table : IsHop r.hop → IsTable (painted M r)
+  painted_is_table hop = cond_both (same_number (match_number (match_of (without_inside M r.block) r.block)) (number_of r.hop)) (without_inside M r.block) (overwritten M r) IsTable (λ e. out) (λ e. over_is_table M m r ok hop)
+
+  pub painted_hops : IsHop r.hop → (x : Address) → IsAddress x → hop_at (painted M r) x ≡ cond (has_address r.block x) (number_of r.hop) (hop_at M x)
+  painted_hops hop x a = cond_both (same_number (match_number (match_of (without_inside M r.block) r.block)) (number_of r.hop)) (without_inside M r.block) (overwritten M r)
+      (λ N. hop_at N x ≡ cond (has_address r.block x) (number_of r.hop) (hop_at M x))
+      (λ e. cond_both (has_address r.block x) (number_of r.hop) (hop_at M x) (λ o. hop_at (without_inside M r.block) x ≡ o)
+      (λ f. handed_down x a (has_from_test r.block x f) ∙ same_from_test (match_number (match_of (without_inside M r.block) r.block)) (number_of r.hop) e)
+      (λ f. ap match_number (outside_match M m r ok x a f)))
+      (λ e. over_hops M m r ok hop x a)
+
+-- ---- several changes
+
+-- changes by recursion
+abbrev pub Changes : List Route → Type 0
+Changes rs = (r : Route) → In r rs → IsBlock r.block × IsHop r.hop
+
+pub changes_from : (rs : List Route) → AreChanges rs → Changes rs
+changes_from rs c r i = (In-from_All (λ s. IsBlock s.block) rs c.blocks r i, In-from_All (λ s. IsHop s.hop) rs c.hops r i)
+
+pub painted_all_is_table : (M rs : List Route) → IsTable M → Changes rs → IsTable (painted_all M rs)
+painted_all_is_table M [] m c = m
+painted_all_is_table M (r ∷ rs) m c =
+    let k = c r (inl refl) in
+    painted_all_is_table (painted M r) rs (painted_is_table M m r k.0 k.1) (λ s i. c s (inr i))
+
+pub painted_all_hops : (M rs : List Route) → IsTable M → Changes rs → (x : Address) → IsAddress x → hop_at (painted_all M rs) x ≡ hop_over (hop_at M x) rs x
+painted_all_hops M [] m c x a = refl
+painted_all_hops M (r ∷ rs) m c x a =
+    let k = c r (inl refl) in
+    painted_all_hops (painted M r) rs (painted_is_table M m r k.0 k.1) (λ s i. c s (inr i)) x a
+    ∙ ap (λ h. hop_over h rs x) (painted_hops M m r k.0 k.1 x a)
+
+pub told_are_changes : (S : Address → Type 0) (bs : List Block) (hop : Hop) → IsMaximal S bs → IsHop hop → AreChanges (changes_to hop bs)
+told_are_changes S bs hop m k = record {
+  blocks = All-map (λ r. IsBlock r.block) (λ b. record { block = b; hop = hop; pref = default_preference }) bs (All-from_In IsBlock bs (λ b i. (all b i).within.block));
+  hops = All-map (λ r. IsHop r.hop) (λ b. record { block = b; hop = hop; pref = default_preference }) bs (All-from_In (λ b. IsHop hop) bs (λ b i. k));
+}
+  where
+    all : (b : Block) → In b bs → IsMaximalBlock S b
+    all b i = (m.exact b).0 (Contains-from_In bs b i)
+
+-- ---- what the routes outside a block hand down is the match of its parent
+
+module _ (M : List Route) (m : IsTable M) (b : Block) (ok : IsBlock b) where
+  its_block : (s : Route) → In s (without_inside M b) → IsBlock s.block
+  its_block s i = block_in M m s (In-from_filter (λ s. not (is_inside s.block b)) M s i).0
+
+  -- a route outside the block that contains it is larger
+  larger : (s : Route) → In s (without_inside M b) → is_inside b s.block ≡ true → IsLarger s.block b
+  larger s i e = (
+    inside_from_test b s.block ok (its_block s i) e,
+    λ k. not_cases (is_inside s.block b) (In-from_filter (λ s. not (is_inside s.block b)) M s i).1 (test_from_inside s.block b (its_block s i) ok k),
+  )
+
+  pub inherited_from_parent : 0 < b.len → match_of (without_inside M b) b ≡ match_of M (parent b)
+  inherited_from_parent l = ap longest (
+      same_kept (λ s. is_inside b s.block) (λ s. is_inside (parent b) s.block) (without_inside M b) (λ s i. bools_same (is_inside b s.block) (is_inside (parent b) s.block)
+      (λ e. test_from_inside (parent b) s.block up (its_block s i) (parent_in_larger s.block b (its_block s i) ok (larger s i e)))
+      (λ e. test_from_inside b s.block ok (its_block s i) (λ x y. inside_from_test (parent b) s.block up (its_block s i) e x (inside_parent b ok l x y))))
+      ∙ filter_again (λ s. not (is_inside s.block b)) (λ s. is_inside (parent b) s.block) M (λ s i e. not_from (is_inside s.block b) (λ f.
+      let h = inside_from_test s.block b (block_in M m s i) ok f in
+      let k = inside_from_test (parent b) s.block up (block_in M m s i) e in
+      let n = (numbers_from_inside (parent b) b up ok (λ x y. h x (k x y))).long in
+      let z : Block.len (parent b) ≡ b.len - 1 = refl in omega (arith, n, l))))
+    where
+      up : IsBlock (parent b)
+      up = parent_is_block b ok l
+
+  -- nothing is outside all addresses of a family
+  pub inherited_from_none : b.len ≡ 0 → match_of (without_inside M b) b ≡ None
+  inherited_from_none z = ap longest (none_kept (λ s. is_inside b s.block) (without_inside M b) (λ s i. false_from_ne_true (is_inside b s.block) (λ e.
+      let l = larger_is_shorter s.block b (its_block s i) ok (larger s i e) in omega (arith, l, z))))

@@ -1,5 +1,4 @@
-use Rattle.route_laws.proofs.Networks.{routes_are_table, routes_of_add, routes_of_del, del_other}
-use Rattle.route_laws.proofs.ChoiceChanges.{match_of_choices}
+use Rattle.route_laws.proofs.Networks.{routes_are_table, routes_of_add, routes_of_del, del_other, match_of_choices}
 use Rattle.route_laws.proofs.Overwritten.{routes_overwritten}
 use Rattle.route_laws.proofs.laws.best_routes.Goals as goal
 

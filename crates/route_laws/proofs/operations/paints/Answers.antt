@@ -1,5 +1,5 @@
 use Rattle.route_laws.specs.Tables.{Changed}
-use Rattle.route_laws.proofs.Painted.{changes_from, painted_all_hops, painted_hops, painted_is_table, told_are_changes}
+use Rattle.route_laws.proofs.Overwritten.{changes_from, painted_all_hops, painted_hops, painted_is_table, told_are_changes}
 use Rattle.route_laws.proofs.operations.paints.Goals as goal
 
 pub returns : goal.returns
