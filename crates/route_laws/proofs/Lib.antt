@@ -15,7 +15,6 @@ pub mod FlatBounds
 pub mod Listed
 pub mod TableHops
 pub mod FlatTables
-pub mod OneRoute
 pub mod Insides
 pub mod Fewest
 pub mod Families
