@@ -9,10 +9,10 @@ use Rattle.ipnet_blocks.proofs.BlockLaws.{nested, same_sets, strict}
 use Rattle.ipnet_blocks.proofs.Maximals.{host_is_block, has_host}
 use Rattle.route_laws.specs.Operations.{Operation, IsHitless, after, after_all, between, installs, removes, missing, surplus, same_route}
 use Rattle.route_laws.specs.Tables.{Governed, IsMatch, Route, IsTable, hop_at, match_number, match_of, with_route, without_block, is_stored}
-use Rattle.route_laws.proofs.Alterations.{added_match, left_match, added_is_table, left_back, left_is_table, left_other, added_other, added_back, added_itself}
+use Rattle.route_laws.proofs.Alterations.{added_match, left_match, added_is_table, left_back, left_is_table, left_other}
 use Rattle.route_laws.proofs.Insides.{same_match, sound, Sooner, rising, same_in}
 use Rattle.route_laws.proofs.Matches.{block_in, match_from, match_meets}
-use Rattle.route_laws.proofs.Ordered.{before_inner, shorter_first, same_or_not}
+use Rattle.route_laws.proofs.Ordered.{put_back, put_itself, put_other, before_inner, shorter_first, same_or_not}
 use Rattle.route_choices.specs.Hops.{IsHop}
 use Rattle.std.specs.List.{list_any}
 use Rattle.std.proofs.lemmas.Bool.Decides.{nat_tests}
@@ -53,7 +53,7 @@ module _ (N : List Route) (new : IsTable N) where
           member = Contains-from_In N r i;
           holds = m.holds;
           longest = λ u c h. ⊎_elim
-              (λ l. m.longest u (Contains-from_In (with_route T r) u (added_other T table r k.0 u
+              (λ l. m.longest u (Contains-from_In (with_route T r) u (put_other Route.block T r u
               (behind u (In-from_Contains N u c) (shorter_first r.block u.block x (block_in N new u (In-from_Contains N u c)) (m.holds x (has_host x)) (h x (has_host x)) l)) (λ e. let w = ap Block.len e in omega (arith, l, w)))) h)
               (λ l. l)
               (cases_lt (Block.len r.block) (Block.len u.block));
@@ -221,15 +221,15 @@ module _ (N : List Route) (new : IsTable N) where
               (λ e. let m = subst (λ (u : Route). IsBefore r.block u.block) e l in strict r.block r.block m m)
               (λ k. strict r.block s.block l (down.0 s k)) k)) (holds s j))),
           first L (with_route T r) (with_one N new T table r i)
-              (λ s j. ⊎_elim (λ k. inl (kept s j i ok k)) (λ k. ⊎_elim (λ e. inl (subst (λ (u : Route). In u (with_route T r)) (sym e) (added_itself T table r ok))) (λ k. inr k) k) (holds s j))
-              (λ s j. ⊎_elim (λ e. inr (subst (λ (u : Route). In u N) (sym e) i)) (λ t. only s t.0) (added_back T table r ok s j))
+              (λ s j. ⊎_elim (λ k. inl (kept s j i ok k)) (λ k. ⊎_elim (λ e. inl (subst (λ (u : Route). In u (with_route T r)) (sym e) (put_itself Route.block T r))) (λ k. inr k) k) (holds s j))
+              (λ s j. ⊎_elim (λ e. inr (subst (λ (u : Route). In u N) (sym e) i)) (λ t. only s t.0) (put_back Route.block T r s j))
               down.1 (λ s j. come s (inr j)),
         )
       where
         kept : (s : Route) → In s N → In r N → IsBlock r.block → In s T → In s (with_route T r)
         kept s j i ok k = ⊎_elim
-            (λ e. subst (λ (u : Route). In u (with_route T r)) (sym (same_in N new s r j i e)) (added_itself T table r ok))
-            (λ f. added_other T table r ok s k f)
+            (λ e. subst (λ (u : Route). In u (with_route T r)) (sym (same_in N new s r j i e)) (put_itself Route.block T r))
+            (λ f. put_other Route.block T r s k f)
             (same_or_not s.block r.block)
 
     pub leads : Leads N M (between M N)

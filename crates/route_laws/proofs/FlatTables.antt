@@ -1,5 +1,6 @@
 -- The pieces of a flat list as routes are a table with its hops.
-use Rattle.std.proofs.Common.{◌≡◌, ℕ, ◌<◌, ◌^◌, Option, Some, None, IfSome, refl, subst, ⊎_elim, Bool, true, false, nat_lt, cond, List, [], ◌∷◌, ◌++◌, map, sym, ap, ◌∙◌, option_map, arith, inl}
+use Rattle.std.proofs.Common.{◌≡◌, ℕ, ◌<◌, ◌^◌, Option, Some, None, IfSome, refl, subst, ⊎_elim, true, false, nat_lt, cond, List, [], ◌∷◌, ◌++◌, map, sym, ap, ◌∙◌, option_map, arith, inl}
+use Rattle.std.proofs.lemmas.Option.{none-some}
 use Rattle.ipnet_addr.proofs.Ascending.{In-from_All, In-from_Contains, Contains-from_In, Rising-from_pairs, Rising}
 use Rattle.ipnet_addr.proofs.Members.{In}
 use Rattle.ipnet_blocks.specs.Blocks.{host, Block, IsBefore, is_inside, HasAddress, first_of}
@@ -16,7 +17,7 @@ use Rattle.route_choices.proofs.Kept.{In-map, filter_map_swap, map_In}
 use Rattle.route_laws.specs.Networks.{Stored, choices_at, with_choice, with_choices, IsStoredTable, routes_of}
 use Rattle.route_laws.proofs.Insides.{Sound, rising, sound, table_of}
 use Rattle.route_laws.proofs.Networks.{at_cases, Earlier, IsGood, stored_table_of}
-use Rattle.route_laws.proofs.Ordered.{before_apart, put_last, Rising-map, each_last}
+use Rattle.route_laws.proofs.Ordered.{none_or_some, before_apart, put_last, Rising-map, each_last}
 use Rattle.ipnet_blocks.proofs.BlockLaws.{has_first}
 use Rattle.route_laws.specs.Changes.{route_for, with_pieces, with_each}
 use Rattle.route_laws.specs.Flats.{Piece, IsFlat}
@@ -35,11 +36,12 @@ small_hop (Number k) h = h
 small_hop Drop h = tt
 
 pub hops_of_table : HopsOfTable
-hops_of_table M table x a = go (match_of M (host x)) (λ r e. In-from_Contains M r (IsMatch.member (match_meets M table (host x) (host_is_block x a) r e)))
-  where
-    go : (o : Option Route) → ((r : Route) → o ≡ Some r → In r M) → Small (match_number o)
-    go None f = tt
-    go (Some r) f = small_hop r.hop (In-from_All (λ (s : Route). IsHop s.hop) M table.hops r (f r refl))
+hops_of_table M table x a = ⊎_elim
+    (λ e. rw e tt)
+    (λ t.
+    let member = (match_meets M table (host x) (host_is_block x a) t.0 t.1).member in
+    rw t.1 (small_hop t.0.hop (In-from_All (λ (s : Route). IsHop s.hop) M table.hops t.0 (In-from_Contains M t.0 member))))
+    (none_or_some (match_of M (host x)))
 
 pub given_hops : GivenHops
 given_hops h N given x a = subst Small (given.same x a) (hops_of_table N given.table x a)
@@ -62,25 +64,17 @@ module _ (pref : ℕ) where
 
   longer_same : (r : Route) (o : Option Route) → Some (longer (preferring r) (option_map preferring o)) ≡ option_map preferring (Some (longer r o))
   longer_same r None = refl
-  longer_same r (Some s) = go (nat_lt r.block.len s.block.len)
-    where
-      go : (b : Bool) → Some (cond b (preferring s) (preferring r)) ≡ Some (preferring (cond b s r))
-      go true = refl
-      go false = refl
+  longer_same r (Some s) = elim (nat_lt r.block.len s.block.len) as (λ b. Some (cond b (preferring s) (preferring r)) ≡ Some (preferring (cond b s r))) [ true ↦ refl | false ↦ refl ]
 
   longest_same : (rs : List Route) → longest (map preferring rs) ≡ option_map preferring (longest rs)
   longest_same [] = refl
   longest_same (r ∷ rs) = ap (λ o. Some (longer (preferring r) o)) (longest_same rs) ∙ longer_same r (longest rs)
 
-  number_same : (o : Option Route) → match_number (option_map preferring o) ≡ match_number o
-  number_same None = refl
-  number_same (Some r) = refl
-
   pub hops_same : (M : List Route) (x : Address) → hop_at (map preferring M) x ≡ hop_at M x
   hops_same M x =
       ap (λ rs. match_number (longest rs)) (filter_map_swap preferring (λ r. is_inside (host x) r.block) M)
       ∙ ap match_number (longest_same (covering M (host x)))
-      ∙ number_same (longest (covering M (host x)))
+      ∙ (elim (longest (covering M (host x))) as (λ o. match_number (option_map preferring o) ≡ match_number o) [ None ↦ refl | Some r ↦ refl ])
 
   pub preferring_table : (M : List Route) → IsTable M → IsTable (map preferring M)
   preferring_table M table = table_of (map preferring M)
@@ -116,16 +110,15 @@ module _ (h : Address → Option ℕ) (ps : List Piece) (small : AreHops h) (fla
   }
 
   has_hops : (x : Address) → IsAddress x → hop_at N x ≡ h x
-  has_hops x a = go (h x) refl
-    where
-      go : (o : Option ℕ) → h x ≡ o → hop_at N x ≡ h x
-      go (Some k) e =
-          let t = piece_at h ps flat x a k e in
-          ap match_number (match_from N is_table (host x) (host_is_block x a) (route_for t.0) (matched x t.0 t.1 t.2)) ∙ ap (λ (n : ℕ). Some n) t.3 ∙ sym e
-      go None e = ap match_number (none_from N is_table (host x) (host_is_block x a) (λ r i l.
-          let t = In-map route_for ps r i in
-          let z = tells h ps flat t.0 t.1 x (subst (λ (s : Route). HasAddress s.block x) t.2 (l x (has_host x))) in
-          absurd (let y : None ≡ Some (Piece.number t.0) = sym e ∙ z in cc))) ∙ sym e
+  has_hops x a = ⊎_elim
+      (λ e. ap match_number (none_from N is_table (host x) (host_is_block x a) (λ r i l.
+      let t = In-map route_for ps r i in
+      let z = tells h ps flat t.0 t.1 x (subst (λ (s : Route). HasAddress s.block x) t.2 (l x (has_host x))) in
+      none-some t.0.number (sym e ∙ z))) ∙ sym e)
+      (λ s.
+      let t = piece_at h ps flat x a s.0 s.1 in
+      ap match_number (match_from N is_table (host x) (host_is_block x a) (route_for t.0) (matched x t.0 t.1 t.2)) ∙ ap (λ (n : ℕ). Some n) t.3 ∙ sym s.1)
+      (none_or_some (h x))
 
 pub flat_is_table : FlatIsTable
 flat_is_table h ps small flat = record { table = is_table h ps small flat; same = has_hops h ps small flat }

@@ -185,11 +185,7 @@ pub in_family : (x : Address) → IsAddress x → HasAddress (family_block x.fam
 in_family x a = (refl, let z : width x.family - 0 ≡ width x.family = omega arith in ap (λ n. x.number / 2 ^ n) z ∙ div-eq_of_lt a)
 
 pub hop_is : (N : List Route) (x : Address) → hop_under None N x ≡ hop_at N x
-hop_is N x = go (match_of N (host x))
-  where
-    go : (o : Option Route) → inherited None o ≡ match_number o
-    go None = refl
-    go (Some r) = refl
+hop_is N x = elim (match_of N (host x)) as (λ o. inherited None o ≡ match_number o) [ None ↦ refl | Some r ↦ refl ]
 
 -- the routes of one family give its addresses their hops
 pub part_hops : (N : List Route) → IsTable N → (f : Family) (s : Option ℕ) → GivesInside (hop_under s N) (family_block f) s (within (family_block f) N)

@@ -1,17 +1,17 @@
 -- What the longest match is.
-use Rattle.std.proofs.Common.{◌≡◌, ◌<◌, ◌≤◌, ◌-◌, ◌/◌, ◌^◌, ◌⊎◌, inl, inr, ⊎_elim, Bool, true, false, cond, nat_lt, List, [], ◌∷◌, AllPairs, Option, Some, None, MatchOption, refl, sym, ap, ◌∙◌, subst, arith}
-use Rattle.std.proofs.lemmas.Bool.{cases_lt, false_from_ne_true, ltb-false, ltb-true}
+use Rattle.std.proofs.Common.{◌≡◌, ◌<◌, ◌≤◌, ◌-◌, ◌/◌, ◌^◌, ◌⊎◌, inl, inr, ⊎_elim, Bool, true, false, nat_lt, List, [], ◌∷◌, AllPairs, slice_index_or, Option, Some, None, MatchOption, refl, sym, ap, ◌∙◌, subst, arith}
+use Rattle.std.proofs.lemmas.Bool.{cases_lt, cond_both, false_from_ne_true, ltb-false, ltb-true}
 use Rattle.std.proofs.lemmas.List.Kept.{AllPairs-filter}
 use Rattle.std.proofs.lemmas.Option.{MatchOption-at_none, MatchOption-at_some}
 use Rattle.ipnet_addr.specs.Addresses.{Address, IsAddress, width}
 use Rattle.ipnet_blocks.specs.Blocks.{Block, IsBlock, free_bits, HasAddress, IsBefore, IsInside, is_inside, host, first_of}
 use Rattle.ipnet_addr.proofs.Members.{In}
-use Rattle.ipnet_addr.proofs.Ascending.{In-from_Contains, Contains-from_In, In-from_All, Rising, Rising-from_pairs, pairs_from_Rising}
+use Rattle.ipnet_addr.proofs.Ascending.{In-from_Contains, Contains-from_In, In-from_All, All-from_In, Rising-from_pairs}
 use Rattle.ipnet_blocks.proofs.BlockLaws.{block_path, nested, has_first, inside_by_numbers, numbers_from_inside, strict}
 use Rattle.ipnet_blocks.proofs.Parents.{decide_inside}
 use Rattle.ipnet_blocks.proofs.Maximals.{host_is_block, in_host, has_host}
 use Rattle.route_choices.proofs.Kept.{In-from_filter, In-filter, none_kept, same_kept}
-use Rattle.route_laws.proofs.Ordered.{Earlier, before_apart, one_of_block, shorter_first}
+use Rattle.route_laws.proofs.Ordered.{none_or_some, Earlier, before_apart, one_of_block, shorter_first}
 use Rattle.route_laws.specs.Tables.{Route, IsTable, IsMatch, covering, longer, longest, match_of, Governed}
 
 pub bools_same : (a b : Bool) → (a ≡ true → b ≡ true) → (b ≡ true → a ≡ true) → a ≡ b
@@ -41,22 +41,17 @@ test_from_inside a b p q = (inside_by_numbers a b p q).0
 -- of a route and a match the longer is the route, or the match, which is longer then
 pub longer_cases : (r : Route) (o : Option Route) → (longer r o ≡ r) ⊎ ((Some (longer r o) ≡ o) × (Block.len r.block < Block.len (Route.block (longer r o))))
 longer_cases r None = inl refl
-longer_cases r (Some s) = go (nat_lt (Block.len r.block) (Block.len s.block)) refl
-  where
-    go : (c : Bool) → nat_lt (Block.len r.block) (Block.len s.block) ≡ c → (cond c s r ≡ r) ⊎ ((Some (cond c s r) ≡ Some s) × (Block.len r.block < Block.len (Route.block (cond c s r))))
-    go true e = inr (refl, ltb-true _ _ e)
-    go false e = inl refl
+longer_cases r (Some s) = cond_both (nat_lt r.block.len s.block.len) s r (λ t. (t ≡ r) ⊎ ((Some t ≡ Some s) × (r.block.len < t.block.len)))
+    (λ e. inr (refl, ltb-true _ _ e)) (λ e. inl refl)
 
 abbrev pub AtLeast : Route → List Route → Type 0
 AtLeast r rs = In r rs × ((s : Route) → In s rs → Block.len s.block ≤ Block.len r.block)
 
 pick : (r : Route) (rs : List Route) (o : Option Route) → MatchOption o ((s : Route) → In s rs → ⊥) (λ s. AtLeast s rs) → AtLeast (longer r o) (r ∷ rs)
 pick r rs None none = (inl refl, λ s i. ⊎_elim (λ e. let l : Block.len s.block ≡ Block.len r.block = ap (λ (t : Route). Block.len t.block) e in omega arith) (λ j. absurd (none s j)) i)
-pick r rs (Some s) best = go (nat_lt (Block.len r.block) (Block.len s.block)) refl
-  where
-    go : (c : Bool) → nat_lt (Block.len r.block) (Block.len s.block) ≡ c → AtLeast (cond c s r) (r ∷ rs)
-    go true e = (inr best.0, λ t i. ⊎_elim (λ q. let l = ltb-true _ _ e in let m = ap (λ (u : Route). Block.len u.block) q in omega arith) (λ j. best.1 t j) i)
-    go false e = (inl refl, λ t i. ⊎_elim (λ q. let m = ap (λ (u : Route). Block.len u.block) q in omega arith) (λ j. let l = ltb-false _ _ e in let b = best.1 t j in omega arith) i)
+pick r rs (Some s) best = cond_both (nat_lt r.block.len s.block.len) s r (λ t. AtLeast t (r ∷ rs))
+    (λ e. (inr best.0, λ t i. ⊎_elim (λ q. let l = ltb-true _ _ e in let m = ap (λ (u : Route). Block.len u.block) q in omega arith) (λ j. best.1 t j) i))
+    (λ e. (inl refl, λ t i. ⊎_elim (λ q. let m = ap (λ (u : Route). Block.len u.block) q in omega arith) (λ j. let l = ltb-false _ _ e in let b = best.1 t j in omega arith) i))
 
 pub best_of : (rs : List Route) → MatchOption (longest rs) ((s : Route) → In s rs → ⊥) (λ s. AtLeast s rs)
 best_of [] = λ s i. i
@@ -76,20 +71,13 @@ module _ (M : List Route) (table : IsTable M) where
         (t.0, inside_from_test n r.block ok (block_in r t.0) t.1)
 
     pub cover_ascends : AllPairs (λ r s. r.block.len < s.block.len) (covering M n)
-    cover_ascends = pairs_from_Rising Shorter (covering M n) (shorter (covering M n) (λ r i. i) (Rising-from_pairs (Earlier Route.block) (covering M n) (AllPairs-filter (Earlier Route.block) (λ r. is_inside n r.block) M table.ascending)))
-      where
-        Shorter : Route → Route → Type 0
-        Shorter r s = r.block.len < s.block.len
-
-        has : (r : Route) → In r (covering M n) → HasAddress r.block (first_of n)
-        has r i = (in_covers r i).1 (first_of n) (has_first n)
-
-        shorter : (rs : List Route) → ((r : Route) → In r rs → In r (covering M n)) → Rising (Earlier Route.block) rs → Rising Shorter rs
-        shorter [] h up = tt
-        shorter (r ∷ rs) h up = (
-          λ s i. earlier_is_shorter r.block s.block (first_of n) (block_in r (in_covers r (h r (inl refl))).0) (has r (h r (inl refl))) (has s (h s (inr i))) (up.0 s i),
-          shorter rs (λ s i. h s (inr i)) up.1,
-        )
+    cover_ascends i j d l m =
+        let up = AllPairs-filter (Earlier Route.block) (λ r. is_inside n r.block) M table.ascending in
+        let holds = All-from_In (λ r. IsBlock r.block × HasAddress r.block (first_of n)) (covering M n) (λ r k. let t = in_covers r k in (block_in r t.0, t.1 (first_of n) (has_first n))) in
+        let r = slice_index_or (covering M n) i d in
+        let s = slice_index_or (covering M n) j d in
+        let k = holds i d (omega arith) in
+        earlier_is_shorter r.block s.block (first_of n) k.0 k.1 (holds j d m).1 (up i j d l m)
 
     pub no_match : match_of M n ≡ None → (r : Route) → In r M → IsInside n r.block → ⊥
     no_match e r i h = MatchOption-at_none ((s : Route) → In s (covering M n) → ⊥) (λ s. AtLeast s (covering M n)) e (best_of (covering M n)) r (covers_in r i h)
@@ -104,18 +92,18 @@ module _ (M : List Route) (table : IsTable M) where
         record { member = Contains-from_In M r t.0; holds = t.1; longest = λ s c h. best.1 s (covers_in s (In-from_Contains M s c) h) }
 
     pub match_from : (r : Route) → IsMatch M n r → match_of M n ≡ Some r
-    match_from r m = go (match_of M n) refl
-      where
-        go : (o : Option Route) → match_of M n ≡ o → match_of M n ≡ Some r
-        go None e = absurd (no_match e r (In-from_Contains M r m.member) m.holds)
-        go (Some s) e =
-            let k = match_meets s e in
-            let p = m.longest s k.member k.holds in
-            let q = k.longest r m.member m.holds in
-            let l : Block.len s.block ≡ Block.len r.block = omega arith in
-            let same = same_length s.block r.block (first_of n) (k.holds (first_of n) (has_first n)) (m.holds (first_of n) (has_first n)) l in
-            let one = one_of_block Route.block M (Rising-from_pairs (Earlier Route.block) M table.ascending) s r (In-from_Contains M s k.member) (In-from_Contains M r m.member) same in
-            e ∙ ap (λ (t : Route). Some t) one
+    match_from r m = ⊎_elim
+        (λ e. absurd (no_match e r (In-from_Contains M r m.member) m.holds))
+        (λ t.
+        let s = t.0 in
+        let k = match_meets s t.1 in
+        let p = m.longest s k.member k.holds in
+        let q = k.longest r m.member m.holds in
+        let l : Block.len s.block ≡ Block.len r.block = omega arith in
+        let same = same_length s.block r.block (first_of n) (k.holds (first_of n) (has_first n)) (m.holds (first_of n) (has_first n)) l in
+        let one = one_of_block Route.block M (Rising-from_pairs (Earlier Route.block) M table.ascending) s r (In-from_Contains M s k.member) (In-from_Contains M r m.member) same in
+        t.1 ∙ ap (λ (t : Route). Some t) one)
+        (none_or_some (match_of M n))
 
     -- the match of an address that n governs is the match of n
     pub governed_match : (x : Address) → IsAddress x → Governed M n x → match_of M (host x) ≡ match_of M n

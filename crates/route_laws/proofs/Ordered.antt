@@ -1,5 +1,5 @@
 -- Lists of things at blocks, ascending by these: one put in the place of any other of its block, or taken out.
-use Rattle.std.proofs.Common.{◌≡◌, ◌⊎◌, ◌<◌, arith, inl, inr, ⊎_elim, Bool, true, not, List, [], ◌∷◌, ◌++◌, filter, map, sym, refl, ap, ◌∙◌, subst, append-nil, append_assoc}
+use Rattle.std.proofs.Common.{◌≡◌, ◌⊎◌, ◌<◌, arith, inl, inr, ⊎_elim, Bool, true, not, Option, None, Some, List, [], ◌∷◌, ◌++◌, filter, map, sym, refl, ap, ◌∙◌, subst, append-nil, append_assoc}
 use Rattle.std.proofs.lemmas.Bool.{cases_lt, false_from_ne_true, not_from_false}
 use Rattle.ipnet_addr.specs.Addresses.{Address, rank}
 use Rattle.ipnet_addr.proofs.Members.{In, In-left, In-right, In-cases}
@@ -22,6 +22,10 @@ not_cases b e f = let g = ap not f in cc
 
 pub not_from : (b : Bool) → (b ≡ true → ⊥) → not b ≡ true
 not_from b f = not_from_false b (false_from_ne_true b f)
+
+pub none_or_some : {A : Type 0} (o : Option A) → (o ≡ None) ⊎ ((a : A) × (o ≡ Some a))
+none_or_some None = inl refl
+none_or_some (Some a) = inr (a, refl)
 
 pub no_members : {A : Type 0} (xs : List A) → ((a : A) → In a xs → ⊥) → xs ≡ []
 no_members [] none = refl
