@@ -18,7 +18,7 @@ use Rattle.ipnet_blocks.proofs.Search.{left_is_block, right_is_block, left_insid
 use Rattle.route_laws.specs.Bounds.{excess, pieces_in, lengths_in}
 use Rattle.route_laws.specs.Flats.{Piece, HasOneHop, one_hop_in, piece_or, flat_in, IsFlat}
 use Rattle.route_laws.specs.Tables.{Route, IsTable, Governed, hop_at, match_of, match_number}
-use Rattle.route_laws.proofs.Flats.{maximal_same, complete, located, not_one, sound, Sooner, in_family, rising_family}
+use Rattle.route_laws.proofs.Flats.{maximal_same, not_one, search, Sooner, in_family, rising_family}
 use Rattle.route_laws.proofs.Matches.{block_in, bools_same, inside_from_test, same_length, test_from_inside, governed_match}
 use Rattle.route_laws.proofs.Ordered.{no_members, same_or_not, not_cases, not_from}
 use Rattle.ipnet_addr.proofs.Families.{family_from_test, test_from_family}
@@ -97,9 +97,10 @@ module _ (h : Address → Option ℕ) where
   -- addresses without a hop have no pieces
   no_hop_here : (k : ℕ) (t : Block) → IsBlock t → free_bits t ≡ k → IsBare t → flat_in h k t ≡ []
   no_hop_here k t ok e none = no_members (flat_in h k t) (λ p i.
-      let first = has_first p.block in
-      let m = sound h k t ok e (λ c w l. none-some w.number (sym (none (first_of t) (has_first t)) ∙ w.all (first_of t) (l.0 (first_of t) (has_first t)))) p i in
-      none-some p.number (sym (none (first_of p.block) (located h k t ok e p i (first_of p.block) first)) ∙ m.within.all (first_of p.block) first))
+      let x = first_of p.block in
+      let no_larger = λ (c : Block) (w : HasOneHop h c) (l : IsLarger c t). none-some w.number (sym (none (first_of t) (has_first t)) ∙ w.all (first_of t) (l.0 (first_of t) (has_first t))) in
+      let s = (search h k t ok e no_larger).sound p i in
+      none-some p.number (sym (none x (s.1 x (has_first p.block))) ∙ s.0.within.all x (has_first p.block)))
 
   module _ (cost : Block → ℕ) where
     -- a block has no hop, or one; or its halves cost one less than the whole, or no more where one of them has no hop
@@ -224,10 +225,12 @@ excess_of n r = cond_less (is_inside r.block n && nat_lt (n.len + 1) r.block.len
 pub governed_bound : (M : List Route) (n : Block) (bs : List Block) → IsTable M → IsBlock n → IsMaximal (Governed M n) bs → length bs ≤ 1 + sum_by (λ r. excess n r.block) M
 governed_bound M n bs table ok max =
     let h = hop M table n ok in
+    let no_larger = λ (c : Block) (w : HasOneHop h c) (l : IsLarger c n). l.1 (λ x k.
+    has_from_test n x (and_parts (has_address n x) (not (covered M table n ok x)) (cond_some (has_address n x && not (covered M table n ok x)) 0 w.number (w.all x k)).0).0) in
     let found = no_more (λ b (p : Piece). b ≡ p.block) bs (flat_in h (free_bits n) n) (Distinct-from_Rising IsBefore strict bs (Rising-from_pairs IsBefore bs max.ascending))
     (λ b i. let m = (max.exact b).0 (Contains-from_In bs b i) in (
       record { block = b; number = 0 },
-      complete h (free_bits n) n ok refl (record { block = b; number = 0 })
+      (search h (free_bits n) n ok refl no_larger).complete (record { block = b; number = 0 })
           (maximal_same (Governed M n) (λ x. h x ≡ Some 0) (λ x a g. hop_of_governed M table n ok x g) (λ x a e. governed_from_hop M table n ok x e) b m) (λ x k. Governed.inside (m.within.all x k)),
       refl,
     ))

@@ -1,20 +1,21 @@
 -- Flat lists are the shortest admissible ones, and tell the hops.
-use Rattle.std.proofs.Common.{◌≡◌, ℕ, ◌≤◌, ◌⊎◌, ◌↔◌, inl, inr, ⊎_elim, List, length, Any, Option, Some, None, IsSome, refl, sym, ap, ◌∙◌, subst, ◌==◌, zero, suc, ◌+◌, ◌-◌, ◌*◌, ◌/◌, ◌<◌, [], ◌++◌, arith, Bool, filter, eq-eqb, eqb-true}
+use Rattle.std.proofs.Common.{◌≡◌, ◌∷◌, ℕ, ◌≤◌, ◌⊎◌, ◌↔◌, inl, inr, ⊎_elim, List, length, Option, Some, None, IsSome, refl, sym, ap, ◌∙◌, subst, ◌==◌, zero, suc, ◌+◌, ◌-◌, ◌*◌, ◌/◌, ◌<◌, [], ◌++◌, arith, Bool, filter, eq-eqb, eqb-true}
 use Rattle.std.proofs.lemmas.Bool.{cases_eq, cond-true, eq-eqb, eqb-true}
 use Rattle.std.proofs.lemmas.List.{length-map}
 use Rattle.ipnet_addr.specs.Addresses.{width, Address, IsAddress, Family, Ipv4, Ipv6, rank}
 use Rattle.ipnet_blocks.specs.Blocks.{Block, IsBlock, HasAddress, IsInside, IsBefore, IsAscending, host, first_of, free_bits, IsLarger, family_block, left, right, parent}
 use Rattle.ipnet_blocks.specs.Maximal.{IsWithin, IsMaximalBlock, IsMaximal}
+use Rattle.ipnet_addr.proofs.Basics.{none_some}
 use Rattle.ipnet_addr.proofs.Members.{In, Distinct, In-left, In-right, In-cases}
 use Rattle.ipnet_addr.proofs.Ascending.{In-from_Contains, Contains-from_In, In-from_All, All-from_In, In-from_Any, Any-from_In, Rising, Rising-from_pairs, Distinct-from_Rising, same_rising, pairs_from_Rising}
 use Rattle.ipnet_blocks.proofs.Cover.{Top, Covers, least, cover_in, in_cover}
 use Rattle.ipnet_blocks.proofs.BlockLaws.{same_sets, nested, has_first, strict}
 use Rattle.ipnet_blocks.proofs.Parents.{climb, decide_inside, larger_is_shorter, parent_in_larger}
 use Rattle.ipnet_blocks.proofs.Maximals.{host_is_block, in_host, has_host, member_is_address, maximal_is_top}
-use Rattle.route_laws.specs.Flats.{Piece, IsFlat, blocks_of, HasOneHop, IsAdmissible, common, one_hop_in, piece_or, flat_in, flat_of}
+use Rattle.route_laws.specs.Flats.{Piece, IsFlat, blocks_of, HasOneHop, IsAdmissible, common, one_hop_in, flat_in, flat_of}
 use Rattle.std.proofs.lemmas.Option.{cond_some}
 use Rattle.ipnet_blocks.proofs.Search.{left_is_block, right_is_block, left_inside, right_inside, in_a_half, address_in_a_half, halves_in_order, whole_is_block, inside_whole, leaf_address}
-use Rattle.route_laws.proofs.Ordered.{alone}
+use Rattle.route_laws.proofs.Ordered.{alone, none_or_some}
 use Rattle.route_choices.proofs.Kept.{Rising-joined, Rising-kept, In-from_filter, In-filter}
 use Rattle.route_choices.proofs.Kept as Kept
 use Rattle.route_laws.proofs.Ordered as Ordered
@@ -108,14 +109,10 @@ module _ (h : Address → Option ℕ) where
   pub flat_is_admissible : (ps : List Piece) → IsFlat h ps → IsAdmissible h (blocks_of ps)
   flat_is_admissible ps f = record {
     one_hop = All-from_In (HasOneHop h) (blocks_of ps) (λ b i. (tops ps f b i).0);
-    covers = λ x a s. go x a (h x) refl s;
+    covers = λ x a s. ⊎_elim (λ e. absurd (none_some e s))
+        (λ n. let t = piece_at ps f x a n.0 n.1 in Any-from_In (λ b. HasAddress b x) (blocks_of ps) t.0.block (In-map t.0 ps t.1) t.2)
+        (none_or_some (h x));
   }
-    where
-      go : (x : Address) → IsAddress x → (o : Option ℕ) → h x ≡ o → IsSome (h x) → Any (λ b. HasAddress b x) (blocks_of ps)
-      go x a (Some n) e s =
-          let t = piece_at ps f x a n e in
-          Any-from_In (λ b. HasAddress b x) (blocks_of ps) (Piece.block t.0) (In-map t.0 ps t.1) t.2
-      go x a None e s = absurd (let z : IsSome {T = ℕ} None = subst (λ (o : Option ℕ). IsSome o) e s in cc)
 
   pub piece_is_maximal : (ps : List Piece) → IsFlat h ps → (p : Piece) → In p ps → IsMaximalBlock (λ x. h x ≡ Some p.number) p.block
   piece_is_maximal ps f p i = (f.exact p).0 (Contains-from_In ps p i)
@@ -180,21 +177,7 @@ common_parts (Some j) None n e = absurd (cc)
 common_parts (Some j) (Some k) n e = let t = cond_some (j == k) j n e in (ap (λ i. Some i) t.1, ap (λ i. Some i) (sym (eqb-true j k t.0) ∙ t.1))
 
 common_both : (o p : Option ℕ) (n : ℕ) → o ≡ Some n → p ≡ Some n → common o p ≡ Some n
-common_both None p n e f = absurd (cc)
-common_both (Some j) None n e f = absurd (cc)
-common_both (Some j) (Some k) n e f = cond-true (j == k) (Some j) None (eq-eqb j k (cc)) ∙ e
-
-in_piece : (b : Block) (o : Option ℕ) (ps : List Piece) (p : Piece) → In p (piece_or b o ps) → ((p.block ≡ b) × (o ≡ Some p.number)) ⊎ ((o ≡ None) × In p ps)
-in_piece b None ps p i = inr (refl, i)
-in_piece b (Some n) ps p i = ⊎_elim (λ e. inl (ap Piece.block e, ap (λ (q : Piece). Some q.number) (sym e))) (λ j. absurd j) i
-
-piece_in : (b : Block) (o : Option ℕ) (ps : List Piece) (p : Piece) → ((n : ℕ) → o ≡ Some n → (p.block ≡ b) × (p.number ≡ n)) → (o ≡ None → In p ps) → In p (piece_or b o ps)
-piece_in b None ps p f g = g refl
-piece_in b (Some n) ps p f g = let t = f n refl in inl (λ i. record { block = t.0 i; number = t.1 i })
-
-rising_piece : (b : Block) (o : Option ℕ) (ps : List Piece) → Rising Sooner ps → Rising Sooner (piece_or b o ps)
-rising_piece b None ps h = h
-rising_piece b (Some n) ps h = ((λ y i. absurd i), tt)
+common_both o p n e f = rw (e, f) (cond-true (n == n) (Some n) None (eq-eqb n n refl))
 
 -- a block stands above its halves
 above_half : (t : Block) (quotient : ℕ) → quotient / 2 ≡ t.quotient → parent (record { family = t.family; len = t.len + 1; quotient = quotient }) ≡ t
@@ -232,48 +215,7 @@ module _ (h : Address → Option ℕ) where
       let i = parent_in_larger c half w.block q l in
       not_one (suc k) t p e o (record { block = p; number = w.number; all = λ x m. w.all x (i x (subst (λ (a : Block). HasAddress a x) (sym above) m)) })
 
-  pub located : (k : ℕ) (t : Block) → IsBlock t → free_bits t ≡ k → (p : Piece) → In p (flat_in h k t) → IsInside p.block t
-  unfolding flat_in
-  located zero t ok e p i =
-      ⊎_elim (λ s x m. subst (λ (a : Block). HasAddress a x) s.0 m) (λ s. absurd s.1) (in_piece t (h (first_of t)) [] p i)
-  located (suc k) t ok e p i =
-      let r : 0 < free_bits t = omega arith in
-      ⊎_elim (λ s x m. subst (λ (a : Block). HasAddress a x) s.0 m)
-      (λ s. ⊎_elim
-      (λ j x m. left_inside t ok r x (located k (left t) (left_is_block t ok r) (omega arith) p j x m))
-      (λ j x m. right_inside t ok r x (located k (right t) (right_is_block t ok r) (omega arith) p j x m))
-      (In-cases p (flat_in h k (left t)) (flat_in h k (right t)) s.1))
-      (in_piece t (one_hop_in h (suc k) t) (flat_in h k (left t) ++ flat_in h k (right t)) p i)
-
-  -- a block of one hop with no larger such block is maximal
-  maximal_here : (k : ℕ) (t : Block) → IsBlock t → free_bits t ≡ k → NoLarger t → (p : Piece) → p.block ≡ t → one_hop_in h k t ≡ Some p.number → IsMaximalBlock (λ x. h x ≡ Some p.number) p.block
-  maximal_here k t ok e none p q o = subst (λ (a : Block). IsMaximalBlock (λ x. h x ≡ Some p.number) a) (sym q) (record {
-    within = record { block = ok; all = all_from_one k t ok e p.number o };
-    largest = λ c w l. none c (record { block = w.block; number = p.number; all = w.all }) l;
-  })
-
-  pub sound : (k : ℕ) (t : Block) → IsBlock t → free_bits t ≡ k → NoLarger t → (p : Piece) → In p (flat_in h k t) → IsMaximalBlock (λ x. h x ≡ Some p.number) p.block
-  unfolding flat_in one_hop_in
-  sound zero t ok e none p i =
-      ⊎_elim (λ s. maximal_here zero t ok e none p s.0 s.1) (λ s. absurd s.1) (in_piece t (h (first_of t)) [] p i)
-  sound (suc k) t ok e none p i =
-      let r : 0 < free_bits t = omega arith in
-      ⊎_elim (λ s. maximal_here (suc k) t ok e none p s.0 s.1)
-      (λ s. ⊎_elim
-      (λ j. sound k (left t) (left_is_block t ok r) (omega arith) (none_half k t (left t) ok (left_is_block t ok r) (above_half t (2 * t.quotient) (omega arith)) e s.0) p j)
-      (λ j. sound k (right t) (right_is_block t ok r) (omega arith) (none_half k t (right t) ok (right_is_block t ok r) (above_half t (2 * t.quotient + 1) (omega arith)) e s.0) p j)
-      (In-cases p (flat_in h k (left t)) (flat_in h k (right t)) s.1))
-      (in_piece t (one_hop_in h (suc k) t) (flat_in h k (left t) ++ flat_in h k (right t)) p i)
-
-  -- a maximal block inside a searched one of one hop is that one
-  is_here : (k : ℕ) (t : Block) → IsBlock t → free_bits t ≡ k → (p : Piece) → IsMaximalBlock (λ x. h x ≡ Some p.number) p.block → IsInside p.block t → (n : ℕ) → one_hop_in h k t ≡ Some n → (p.block ≡ t) × (p.number ≡ n)
-  is_here k t ok e p m i n o =
-      let w : HasOneHop h t = record { block = ok; number = n; all = all_from_one k t ok e n o } in
-      let same = (top_of h p m).1 t w i in
-      let here : h (first_of p.block) ≡ Some p.number = m.within.all (first_of p.block) (has_first p.block) in
-      let there : h (first_of p.block) ≡ Some n = w.all (first_of p.block) (i (first_of p.block) (has_first p.block)) in
-      (sym same, cc)
-
+  -- a block inside one that has no hop of its own is smaller
   or_half : (k : ℕ) (t : Block) → IsBlock t → free_bits t ≡ k → one_hop_in h k t ≡ None → (p : Piece) → IsMaximalBlock (λ x. h x ≡ Some p.number) p.block → IsInside p.block t → IsLarger t p.block
   or_half k t ok e o p m i =
       ⊎_elim
@@ -281,44 +223,73 @@ module _ (h : Address → Option ℕ) where
       (λ far. (i, far))
       (decide_inside t p.block ok m.within.block)
 
-  pub complete : (k : ℕ) (t : Block) → IsBlock t → free_bits t ≡ k → (p : Piece) → IsMaximalBlock (λ x. h x ≡ Some p.number) p.block → IsInside p.block t → In p (flat_in h k t)
-  unfolding flat_in one_hop_in
-  complete zero t ok e p m i =
-      piece_in t (h (first_of t)) [] p (is_here zero t ok e p m i)
-      (λ o. absurd ((or_half zero t ok e o p m i).1 (alone t p.block e i)))
-  complete (suc k) t ok e p m i =
-      let r : 0 < free_bits t = omega arith in
-      piece_in t (one_hop_in h (suc k) t) (flat_in h k (left t) ++ flat_in h k (right t)) p (is_here (suc k) t ok e p m i)
-      (λ o. ⊎_elim
-      (λ j. In-left p (flat_in h k (left t)) (flat_in h k (right t)) (complete k (left t) (left_is_block t ok r) (omega arith) p m j))
-      (λ j. In-right p (flat_in h k (left t)) (flat_in h k (right t)) (complete k (right t) (right_is_block t ok r) (omega arith) p m j))
-      (in_a_half t ok r p.block m.within.block (or_half (suc k) t ok e o p m i)))
+  -- the pieces inside a block, ascending
+  pub record Finds (t : Block) (ps : List Piece) : Type 0 where
+    pub rising : Rising Sooner ps
+    pub sound : (p : Piece) → In p ps → IsMaximalBlock (λ x. h x ≡ Some p.number) p.block × IsInside p.block t
+    pub complete : (p : Piece) → IsMaximalBlock (λ x. h x ≡ Some p.number) p.block → IsInside p.block t → In p ps
 
-  search_rises : (k : ℕ) (t : Block) → IsBlock t → free_bits t ≡ k → Rising Sooner (flat_in h k t)
-  unfolding flat_in
-  search_rises zero t ok e = rising_piece t (h (first_of t)) [] tt
-  search_rises (suc k) t ok e =
+  found_here : (k : ℕ) (t : Block) → IsBlock t → free_bits t ≡ k → NoLarger t → (n : ℕ) → one_hop_in h k t ≡ Some n → Finds t (record { block = t; number = n } ∷ [])
+  found_here k t ok e none n o = record {
+    rising = ((λ q i. absurd i), tt);
+    sound = λ p i. ⊎_elim (λ q. rw q (maximal, λ x m. m)) (λ j. absurd j) i;
+    complete = λ p m i.
+        let same = (top_of h p m).1 t w i in
+        let here : h (first_of p.block) ≡ Some p.number = m.within.all (first_of p.block) (has_first p.block) in
+        let there : h (first_of p.block) ≡ Some n = w.all (first_of p.block) (i (first_of p.block) (has_first p.block)) in
+        let number : p.number ≡ n = cc in
+        inl (λ j. record { block = sym same j; number = number j });
+  }
+    where
+      w : HasOneHop h t
+      w = record { block = ok; number = n; all = all_from_one k t ok e n o }
+
+      maximal : IsMaximalBlock (λ x. h x ≡ Some n) t
+      maximal = record { within = record { block = ok; all = w.all }; largest = λ c v l. none c (record { block = v.block; number = n; all = v.all }) l }
+
+  found_in_halves : (k : ℕ) (t : Block) → IsBlock t → free_bits t ≡ suc k → one_hop_in h (suc k) t ≡ None → (ps qs : List Piece) → Finds (left t) ps → Finds (right t) qs → Finds t (ps ++ qs)
+  found_in_halves k t ok e o ps qs f g =
       let r : 0 < free_bits t = omega arith in
-      rising_piece t (one_hop_in h (suc k) t) (flat_in h k (left t) ++ flat_in h k (right t))
-      (Rising-joined Sooner (flat_in h k (left t)) (flat_in h k (right t))
-      (search_rises k (left t) (left_is_block t ok r) (omega arith)) (search_rises k (right t) (right_is_block t ok r) (omega arith))
-      (λ x y i j. halves_in_order t x.block y.block (located k (left t) (left_is_block t ok r) (omega arith) x i) (located k (right t) (right_is_block t ok r) (omega arith) y j)))
+      record {
+        rising = Rising-joined Sooner ps qs f.rising g.rising (λ x y i j. halves_in_order t x.block y.block (f.sound x i).1 (g.sound y j).1);
+        sound = λ p i. ⊎_elim
+            (λ j. let s = f.sound p j in (s.0, λ x m. left_inside t ok r x (s.1 x m)))
+            (λ j. let s = g.sound p j in (s.0, λ x m. right_inside t ok r x (s.1 x m)))
+            (In-cases p ps qs i);
+        complete = λ p m i. ⊎_elim (λ j. In-left p ps qs (f.complete p m j)) (λ j. In-right p ps qs (g.complete p m j))
+            (in_a_half t ok r p.block m.within.block (or_half (suc k) t ok e o p m i));
+      }
+
+  pub search : (k : ℕ) (t : Block) → IsBlock t → free_bits t ≡ k → NoLarger t → Finds t (flat_in h k t)
+  unfolding flat_in one_hop_in
+  search zero t ok e none = ⊎_elim
+      (λ o. rw o (record { rising = tt; sound = λ p i. absurd i; complete = λ p m i. absurd ((or_half zero t ok e o p m i).1 (alone t p.block e i)) }))
+      (λ n. rw n.1 (found_here zero t ok e none n.0 n.1)) (none_or_some (h (first_of t)))
+  search (suc k) t ok e none =
+      let r : 0 < free_bits t = omega arith in
+      let okl = left_is_block t ok r in
+      let okr = right_is_block t ok r in
+      ⊎_elim
+      (λ o. rw o (found_in_halves k t ok e o (flat_in h k (left t)) (flat_in h k (right t))
+      (search k (left t) okl (omega arith) (none_half k t (left t) ok okl (above_half t (2 * t.quotient) (omega arith)) e o))
+      (search k (right t) okr (omega arith) (none_half k t (right t) ok okr (above_half t (2 * t.quotient + 1) (omega arith)) e o))))
+      (λ n. rw n.1 (found_here (suc k) t ok e none n.0 n.1)) (none_or_some (one_hop_in h (suc k) t))
 
   none_whole : (f : Family) → NoLarger (family_block f)
   none_whole f c w l = let s = larger_is_shorter c (family_block f) w.block (whole_is_block f) l in omega arith
 
+  search_whole : (f : Family) → Finds (family_block f) (flat_in h (width f) (family_block f))
+  search_whole f = search (width f) (family_block f) (whole_is_block f) (omega arith) (none_whole f)
+
   -- the pieces of one family: the maximal blocks of one hop in it
   pub in_family : (f : Family) (p : Piece) → In p (flat_in h (width f) (family_block f)) ↔ (IsMaximalBlock (λ x. h x ≡ Some p.number) p.block × (Block.family p.block ≡ f))
   in_family f p = (
-    (λ i. (
-      sound (width f) (family_block f) (whole_is_block f) (omega arith) (none_whole f) p i,
-      (located (width f) (family_block f) (whole_is_block f) (omega arith) p i (first_of p.block) (has_first p.block)).0,
-    )),
-    (λ m. complete (width f) (family_block f) (whole_is_block f) (omega arith) p m.0 (inside_whole p.block f m.0.within.block m.1)),
+    (λ i. let s = (search_whole f).sound p i in (s.0, (s.1 (first_of p.block) (has_first p.block)).0)),
+    (λ m. (search_whole f).complete p m.0 (inside_whole p.block f m.0.within.block m.1)),
   )
 
   pub rising_family : (f : Family) → Rising Sooner (flat_in h (width f) (family_block f))
-  rising_family f = search_rises (width f) (family_block f) (whole_is_block f) (omega arith)
+  rising_family f = (search_whole f).rising
 
   by_family : (p : Piece) → IsMaximalBlock (λ x. h x ≡ Some p.number) p.block → (f : Family) → Block.family p.block ≡ f → In p (flat_of h)
   unfolding flat_of
