@@ -1,5 +1,5 @@
 -- The routes of a table inside one block, and tables inside two blocks apart.
-use Rattle.std.proofs.Common.{◌≡◌, ℕ, ◌+◌, ◌<◌, ◌≤◌, inl, inr, ⊎_elim, Bool, true, cond, nat_lt, List, [], ◌∷◌, ◌++◌, length, filter, ◌⊎◌, MatchOption, Option, Some, None, refl, sym, ap, ◌∙◌, subst, lt-ltb, ◌-◌, ◌/◌, ◌^◌, arith, length-append, ◌≢◌, ◌↔◌, ◌&&◌, ◌==◌, nat_le, IfSome}
+use Rattle.std.proofs.Common.{◌≡◌, ℕ, ◌+◌, ◌<◌, ◌≤◌, inl, inr, ⊎_elim, Bool, true, cond, List, [], ◌∷◌, ◌++◌, length, filter, ◌⊎◌, MatchOption, Option, Some, None, refl, sym, ap, ◌∙◌, subst, lt-ltb, ◌-◌, ◌/◌, ◌^◌, arith, length-append, ◌≢◌, ◌↔◌, ◌&&◌, ◌==◌, nat_le, IfSome}
 use Rattle.std.proofs.lemmas.List.Elements.{All-filter}
 use Rattle.std.proofs.lemmas.List.Kept.{AllPairs-filter}
 use Rattle.std.proofs.lemmas.Bool.{cond_both, cond-false, false_from_ne_true, and_parts, cases_lt}
@@ -11,7 +11,7 @@ use Rattle.ipnet_blocks.proofs.BlockLaws.{strict, has_first, longer_inside, same
 use Rattle.ipnet_blocks.proofs.Maximals.{host_is_block, has_host, in_host, member_is_address}
 use Rattle.route_choices.specs.Hops.{IsHop, number_of, hop_from}
 use Rattle.route_choices.proofs.Kept.{Rising-kept, Rising-joined, length-apart, In-filter, In-from_filter}
-use Rattle.route_laws.specs.Fewest.{inherited, hop_under, GivesInside, IsFewest, LeastIsFewest, AreHops, FewestOfHost}
+use Rattle.route_laws.specs.Fewest.{inherited, hop_under, GivesInside, IsFewest, LeastIsFewest, AreHops}
 use Rattle.route_laws.specs.Tables.{Route, IsTable, covering, longer, longest, match_of, hop_at, match_number}
 use Rattle.route_laws.proofs.Matches.{AtLeast, best_of, inside_from_test, test_from_inside}
 use Rattle.route_laws.proofs.Ordered.{one_of_block, same_or_not, before_apart, before_inner}
@@ -113,10 +113,7 @@ under_route r M s x a p m longer_than = rw (test_from_has x a r p m) (go (longes
   where
     go : (o : Option Route) → MatchOption o ((q : Route) → In q (covering M (host x)) → ⊥) (λ q. AtLeast q (covering M (host x))) → inherited s (Some (longer r o)) ≡ inherited (number_of r.hop) o
     go None b = refl
-    go (Some q) b =
-        let i = (In-from_filter (holds x a) M q b.0).0 in
-        let l : nat_lt (Block.len r.block) (Block.len q.block) ≡ true = lt-ltb (Block.len r.block) (Block.len q.block) (longer_than q i) in
-        rw l refl
+    go (Some q) b = rw (lt-ltb r.block.len q.block.len (longer_than q (In-from_filter (holds x a) M q b.0).0))
 
 -- two blocks: no address and no block lies in both, and the blocks of the one come before those of the other
 module _ (c d : Block) (okc : IsBlock c) (okd : IsBlock d)
@@ -261,10 +258,8 @@ number_from_hop (Some n) = refl
 
 module _ (b : Block) (ok : IsBlock b) where
   -- a table inside the block is strictly inside it, or has one route at it and is strictly inside after that
-  abbrev Headed : List Route → Type 0
-  Headed M = (Strict b M) ⊎ ((r : Route) × (N : List Route) × (M ≡ r ∷ N) × (r.block ≡ b) × Strict b N)
-
-  headed : (M : List Route) → IsTable M → ((r : Route) → In r M → IsInside r.block b) → Headed M
+  headed : (M : List Route) → IsTable M → ((r : Route) → In r M → IsInside r.block b)
+      → (Strict b M) ⊎ ((r : Route) × (N : List Route) × (M ≡ r ∷ N) × (r.block ≡ b) × Strict b N)
   headed [] t lies = inl (λ r i. absurd i)
   headed (r ∷ N) t lies = ⊎_elim
       (λ e. inr (r, N, refl, e, λ q i. inner q (inr i) (λ f. before_apart r.block q.block (up.0 q i) (e ∙ f))))
@@ -279,9 +274,6 @@ module _ (b : Block) (ok : IsBlock b) where
       inner : (q : Route) → In q (r ∷ N) → (b ≡ q.block → ⊥) → IsLarger b q.block
       inner q i n = (lies q i, λ k. n (same_sets b q.block ok (sound (r ∷ N) t q i).0 k (lies q i)))
 
-  longer_than : (N : List Route) → ((q : Route) → In q N → IsBlock q.block) → Strict b N → (q : Route) → In q N → b.len < Block.len q.block
-  longer_than N p k q i = larger_is_shorter b q.block ok (p q i) (k q i)
-
   -- the route at the block before a table strictly inside it
   pub own_gives : (h : Address → Option ℕ) (s k : Option ℕ) (N : List Route) → IsHop (hop_from k) → Strict b N → GivesInside h b k N → GivesInside h b s (route_at b k ∷ N)
   own_gives h s k N fits inner g = record {
@@ -290,7 +282,7 @@ module _ (b : Block) (ok : IsBlock b) where
         ((λ q i. before_inner b q.block ok (sound N g.table q i).0 (inner q i)), rising N g.table);
     inside = All-from_In (λ r. IsInside r.block b) (route_at b k ∷ N) (λ q i. ⊎_elim (λ e. subst (λ (r : Route). IsInside r.block b) (sym e) (λ x m. m)) (λ j. (inner q j).0) i);
     same = λ x m.
-        under_route (route_at b k) N s x (member_is_address b x ok m) ok m (longer_than N (λ q i. (sound N g.table q i).0) inner)
+        under_route (route_at b k) N s x (member_is_address b x ok m) ok m (λ q i. larger_is_shorter b q.block ok (sound N g.table q i).0 (inner q i))
         ∙ ap (λ j. hop_under j N x) (number_from_hop k) ∙ g.same x m;
   }
 
@@ -303,12 +295,11 @@ free_of_large : (h : Address → Option ℕ) → AreHops h → (b : Block) → I
 free_of_large h small b ok j large N g = record {
   table = g.table;
   inside = g.inside;
-  same = λ x m. go x (small x (member_is_address b x ok m)) (match_of N (host x)) (g.same x m);
+  same = λ x m. (elim (match_of N (host x)) as (λ o. inherited (Some j) o ≡ h x → inherited None o ≡ h x) [
+    None ↦ λ e. let l : j < 2 ^ 32 = rw (← e) at (small x (member_is_address b x ok m)) in absurd (omega (arith, l, large))
+    | Some r ↦ λ e. e
+  ]) (g.same x m);
 }
-  where
-    go : (x : Address) → IfSome (h x) (λ i. i < 2 ^ 32) → (o : Option Route) → inherited (Some j) o ≡ h x → inherited None o ≡ h x
-    go x f None e = let l : IfSome (Some j) (λ i. i < 2 ^ 32) = subst (λ (u : Option ℕ). IfSome u (λ i. i < 2 ^ 32)) (sym e) f in absurd (omega (arith, l, large))
-    go x f (Some r) e = e
 
 quotient_tested : (a b : Block) → is_inside a b ≡ true → a.quotient / 2 ^ (a.len - b.len) ≡ b.quotient
 quotient_tested a b e = grind (arith, nat_tests, (and_parts (same_family a.family b.family && nat_le b.len a.len) (a.quotient / 2 ^ (a.len - b.len) == b.quotient) e).1)
@@ -373,20 +364,22 @@ module _ (h : Address → Option ℕ) (small : AreHops h) (b : Block) (ok : IsBl
             (In-cases q l.0 r.0 i),
       )
 
-  -- a hop that is too large serves no better than none
-  no_better : (j : ℕ) → 2 ^ 32 ≤ j → f None + g None ≤ f (Some j) + g (Some j)
-  no_better j large =
-      let l = (below (Some j)).reached in
-      let r = (above (Some j)).reached in
-      omega (arith, l.2, r.2, (below None).least l.0 (free_of_large h small (left b) okl j large l.0 l.1), (above None).least r.0 (free_of_large h small (right b) okr j large r.0 r.1))
-
   -- and with one more route, of those under any hop
   with_own : (s k : Option ℕ) → IsHop (hop_from k) → (t : List Route) × GivesInside h b s t × (length t ≤ f k + g k + 1)
   with_own s k fits = let u = under_same k in (route_at b k ∷ u.0, own_gives b ok h s k u.0 fits u.3 u.1, omega (arith, u.2))
 
+  -- a hop that is too large serves no better than none
   under_other : (s k : Option ℕ) → (t : List Route) × GivesInside h b s t × (length t ≤ f k + g k + 1)
   under_other s None = with_own s None tt
-  under_other s (Some j) = ⊎_elim (with_own s (Some j)) (λ large. let u = with_own s None tt in (u.0, u.1, omega (arith, u.2, no_better j large))) (cases_lt j (2 ^ 32))
+  under_other s (Some j) = ⊎_elim (with_own s (Some j))
+      (λ large.
+      let u = with_own s None tt in
+      let l = (below (Some j)).reached in
+      let r = (above (Some j)).reached in
+      let low = (below None).least l.0 (free_of_large h small (left b) okl j large l.0 l.1) in
+      let high = (above None).least r.0 (free_of_large h small (right b) okr j large r.0 r.1) in
+      (u.0, u.1, omega (arith, u.2, l.2, r.2, low, high)))
+      (cases_lt j (2 ^ 32))
 
   pub from_lesser : (s : Option ℕ) (n : ℕ) → IsLesser f g s n → IsFewest h b s n
   from_lesser s n l = record {
@@ -415,7 +408,7 @@ module _ (h : Address → Option ℕ) (small : AreHops h) (b : Block) (ok : IsBl
 module _ (h : Address → Option ℕ) (small : AreHops h) (b : Block) (ok : IsBlock b) (whole : b.len ≡ width b.family) where
   empty : (s : Option ℕ) → h (first_of b) ≡ s → GivesInside h b s []
   empty s e = record {
-    table = table_of [] (λ r i. absurd i) tt;
+    table = empty_is_table;
     inside = All-from_In (λ (r : Route). IsInside r.block b) [] (λ r i. absurd i);
     same = λ x m. sym e ∙ ap h (leaf_address b (omega (arith, whole)) x m);
   }
@@ -427,17 +420,11 @@ module _ (h : Address → Option ℕ) (small : AreHops h) (b : Block) (ok : IsBl
   none_or_one s [] gives = inl (sym (gives.same (first_of b) (has_first b)))
   none_or_one s (r ∷ u) gives = inr (omega arith)
 
-  pub host_law : (s : Option ℕ) (n : ℕ) → IsFewest h b s n ↔ (((h (first_of b) ≡ s) × (n ≡ 0)) ⊎ ((h (first_of b) ≢ s) × (n ≡ 1)))
-  host_law s n = (to, from)
-    where
-      to : IsFewest h b s n → ((h (first_of b) ≡ s) × (n ≡ 0)) ⊎ ((h (first_of b) ≢ s) × (n ≡ 1))
-      to l = ⊎_elim (λ e. inl (e, omega (arith, l.least [] (empty s e))))
-          (λ m. inr ((λ p. absurd (omega (arith, m, l.reached.2, l.least [] (empty s p)))), omega (arith, m, l.reached.2, l.least (route_at b (h (first_of b)) ∷ []) (one s))))
-          (none_or_one s l.reached.0 l.reached.1)
-
-      from : ((h (first_of b) ≡ s) × (n ≡ 0)) ⊎ ((h (first_of b) ≢ s) × (n ≡ 1)) → IsFewest h b s n
-      from (inl p) = record { reached = ([], empty s p.0, sym p.1); least = λ u g. omega (arith, p.1) }
-      from (inr p) = record { reached = (route_at b (h (first_of b)) ∷ [], one s, sym p.1); least = λ u g. ⊎_elim (λ e. absurd (p.0 e)) (λ m. omega (arith, m, p.1)) (none_or_one s u g) }
-
-pub fewest_of_host : FewestOfHost
-fewest_of_host h small b ok whole = host_law h small b ok whole
+  pub fewest_of_host : (s : Option ℕ) (n : ℕ) → IsFewest h b s n ↔ (((h (first_of b) ≡ s) × (n ≡ 0)) ⊎ ((h (first_of b) ≢ s) × (n ≡ 1)))
+  fewest_of_host s n = (
+    (λ l. ⊎_elim (λ e. inl (e, omega (arith, l.least [] (empty s e))))
+        (λ m. inr ((λ p. absurd (omega (arith, m, l.reached.2, l.least [] (empty s p)))), omega (arith, m, l.reached.2, l.least (route_at b (h (first_of b)) ∷ []) (one s))))
+        (none_or_one s l.reached.0 l.reached.1)),
+    ⊎_elim (λ p. record { reached = ([], empty s p.0, sym p.1); least = λ u g. omega (arith, p.1) })
+        (λ p. record { reached = (route_at b (h (first_of b)) ∷ [], one s, sym p.1); least = λ u g. ⊎_elim (λ e. absurd (p.0 e)) (λ m. omega (arith, m, p.1)) (none_or_one s u g) }),
+  )

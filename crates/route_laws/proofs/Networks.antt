@@ -280,19 +280,16 @@ module _ (T : List Stored) (ok : IsStoredTable T) (b : Block) (okb : IsBlock b) 
   before : IsTable (routes_of T)
   before = routes_are_table T ok
 
-  first_is_hop : (c : Choice) (cs : List Choice) → AreChoices (c ∷ cs) → IsHop c.hop
-  first_is_hop c cs are = In-from_All (λ d. IsHop d.hop) (c ∷ cs) are.hops c (inl refl)
-
   -- the number at the block is that of the first choice
   pub number_of_choices : (cs : List Choice) → AreChoices cs → (cs ≡ [] → ⊥) → number_of (best_hop cs) ≡ match_number (match_of (routes_of (with_choices T b cs)) b)
   number_of_choices [] are some = absurd (some refl)
   number_of_choices (c ∷ cs) are some = sym (ap (λ N. match_number (match_of N b)) (routes_with T (record { block = b; choices = c ∷ cs }))
-      ∙ added_number (routes_of T) before (record { block = b; hop = c.hop; pref = c.pref }) okb (first_is_hop c cs are))
+      ∙ added_number (routes_of T) before (record { block = b; hop = c.hop; pref = c.pref }) okb (best_is_hop (c ∷ cs) are))
 
   pub is_change : (cs : List Choice) → AreChoices cs → IsChange (routes_of T) (routes_of (with_choices T b cs)) b
   is_change [] are = subst (λ (N : List Route). IsChange (routes_of T) N b) (sym (routes_without T b)) (left_change (routes_of T) before b okb)
   is_change (c ∷ cs) are = subst (λ (N : List Route). IsChange (routes_of T) N b) (sym (routes_with T (record { block = b; choices = c ∷ cs })))
-      (added_change (routes_of T) before (record { block = b; hop = c.hop; pref = c.pref }) okb (first_is_hop c cs are))
+      (added_change (routes_of T) before (record { block = b; hop = c.hop; pref = c.pref }) okb (best_is_hop (c ∷ cs) are))
 
   pub changed_by_choices : (cs : List Choice) → AreChoices cs → (x : Address) → IsAddress x →
       Changed (routes_of T) (routes_of (with_choices T b cs)) x ↔ (Governed (routes_of T) b x × (match_number (match_of (routes_of T) b) ≢ match_number (match_of (routes_of (with_choices T b cs)) b)))
