@@ -91,13 +91,10 @@ module _ (x : Address) where
   Once M (o ∷ os) h = ((hop_at (after M o) x ≡ hop_at M x) ⊎ (hop_at (after M o) x ≡ h)) × Once (after M o) os h
 
   -- it is h, and so it stays
-  still : (M : List Route) (o : Operation) (os : List Operation) (h : Option ℕ) → hop_at M x ≡ h → Once M (o ∷ os) h → hop_at (after M o) x ≡ h
-  still M o os h e t = ⊎_elim (λ f. f ∙ e) (λ f. f) t.0
-
   settled_at : (M : List Route) (os : List Operation) (h : Option ℕ) → hop_at M x ≡ h → Once M os h → (i : ℕ) → hop_at (after_all M (take i os)) x ≡ h
   settled_at M os h e t zero = e
   settled_at M [] h e t (suc i) = e
-  settled_at M (o ∷ os) h e t (suc i) = settled_at (after M o) os h (still M o os h e t) t.1 i
+  settled_at M (o ∷ os) h e t (suc i) = settled_at (after M o) os h (⊎_elim (λ f. f ∙ e) (λ f. f) t.0) t.1 i
 
   once_end : (M : List Route) (os : List Operation) (h : Option ℕ) → Once M os h → hop_at (after_all M os) x ≡ h
   once_end M [] h t = t
@@ -142,14 +139,14 @@ falls (x ∷ xs) h = subst (λ (ys : List Route). Rising Later ys) (sym (reverse
 
 -- ---- tests
 
-route_path : (r s : Route) → r.block ≡ s.block → r.hop ≡ s.hop → r.pref ≡ s.pref → r ≡ s
-route_path r s p q t = λ i. record { block = p i; hop = q i; pref = t i }
-
 pub route_from_test : (r s : Route) → same_route r s ≡ true → r ≡ s
 route_from_test r s e =
     let p = and_parts (same_block r.block s.block) (same_hop r.hop s.hop && (r.pref == s.pref)) e in
     let q = and_parts (same_hop r.hop s.hop) (r.pref == s.pref) p.1 in
-    route_path r s (same_from_test r.block s.block p.0) (hop_from_test r.hop s.hop q.0) (grind (arith, nat_tests, q.1))
+    let b = same_from_test r.block s.block p.0 in
+    let h = hop_from_test r.hop s.hop q.0 in
+    let n : r.pref ≡ s.pref = grind (arith, nat_tests, q.1) in
+    λ i. record { block = b i; hop = h i; pref = n i }
 
 pub route_itself : (r : Route) → same_route r r ≡ true
 route_itself r =

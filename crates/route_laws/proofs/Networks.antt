@@ -242,32 +242,32 @@ restored T b c ok okb hop pref none =
 
 -- ---- a `del` of each choice
 
-each_is : (T : List Stored) (b : Block) (cs : List Choice) → IsStoredTable T → IsBlock b → IsStoredTable (without_each T b cs)
-each_is T b [] ok okb = ok
-each_is T b (c ∷ cs) ok okb = each_is (without_choice T b c.hop) b cs (del_is T ok b c.hop okb) okb
-
--- what is left at the block is of other hops
-each_left : (T : List Stored) (b : Block) (cs : List Choice) → IsStoredTable T → IsBlock b → (d : Choice) → In d (choices_at (without_each T b cs) b) → In d (choices_at T b) × ((e : Choice) → In e cs → d.hop ≢ e.hop)
-each_left T b [] ok okb d i = (i, λ e j. absurd j)
-each_left T b (c ∷ cs) ok okb d i =
-    let t = each_left (without_choice T b c.hop) b cs (del_is T ok b c.hop okb) okb d i in
-    let k = at_changed T ok b okb (choices_without (choices_at T b) c.hop) (without_are (choices_at T b) (at_are T ok b) c.hop) in
-    let u = left_back (choices_at T b) c.hop d (subst (λ (ds : List Choice). In d ds) k t.0) in
-    (u.0, λ e j. ⊎_elim (λ q f. u.1 (f ∙ ap Choice.hop q)) (λ m. t.1 e m) j)
-
-each_other : (T : List Stored) (b : Block) (cs : List Choice) → IsStoredTable T → IsBlock b → (d : Block) → (d ≡ b → ⊥) → choices_at (without_each T b cs) d ≡ choices_at T d
-each_other T b [] ok okb d apart = refl
-each_other T b (c ∷ cs) ok okb d apart =
-    each_other (without_choice T b c.hop) b cs (del_is T ok b c.hop okb) okb d apart
-    ∙ at_other T ok b okb (choices_without (choices_at T b) c.hop) (without_are (choices_at T b) (at_are T ok b) c.hop) d apart
+-- after it: what is left at the block is of other hops, and other blocks have their choices
+each_gone : (T : List Stored) (b : Block) (cs : List Choice) → IsStoredTable T → IsBlock b → let N = without_each T b cs in
+    IsStoredTable N × ((d : Choice) → In d (choices_at N b) → In d (choices_at T b) × ((e : Choice) → In e cs → d.hop ≢ e.hop))
+    × ((d : Block) → (d ≡ b → ⊥) → choices_at N d ≡ choices_at T d)
+each_gone T b [] ok okb = (ok, (λ d i. (i, λ e j. absurd j)), λ d apart. refl)
+each_gone T b (c ∷ cs) ok okb =
+    let t = each_gone (without_choice T b c.hop) b cs (del_is T ok b c.hop okb) okb in
+    let are = without_are (choices_at T b) (at_are T ok b) c.hop in
+    let k = at_changed T ok b okb (choices_without (choices_at T b) c.hop) are in (
+      t.0,
+      (λ d i.
+          let s = t.1 d i in
+          let u = left_back (choices_at T b) c.hop d (subst (λ (ds : List Choice). In d ds) k s.0) in
+          (u.0, λ e j. ⊎_elim (λ q f. u.1 (f ∙ ap Choice.hop q)) (λ m. s.1 e m) j)),
+      λ d apart. t.2 d apart ∙ at_other T ok b okb (choices_without (choices_at T b) c.hop) are d apart,
+    )
 
 pub emptied : (T : List Stored) (b : Block) → IsStoredTable T → IsBlock b → without_each T b (choices_at T b) ≡ without_stored T b
-emptied T b ok okb = same_tables (without_each T b (choices_at T b)) (without_stored T b) (each_is T b (choices_at T b) ok okb) (without_is T ok b)
+emptied T b ok okb =
+    let g = each_gone T b (choices_at T b) ok okb in
+    same_tables (without_each T b (choices_at T b)) (without_stored T b) g.0 (without_is T ok b)
     (λ d. ⊎_elim
     (λ e. ap (choices_at (without_each T b (choices_at T b))) e
-    ∙ no_members (choices_at (without_each T b (choices_at T b)) b) (λ c i. let t = each_left T b (choices_at T b) ok okb c i in t.1 c t.0 refl)
+    ∙ no_members (choices_at (without_each T b (choices_at T b)) b) (λ c i. let t = g.1 c i in t.1 c t.0 refl)
     ∙ sym (at_changed T ok b okb [] none_are) ∙ ap (choices_at (without_stored T b)) (sym e))
-    (λ apart. each_other T b (choices_at T b) ok okb d apart ∙ sym (at_other T ok b okb [] none_are d apart))
+    (λ apart. g.2 d apart ∙ sym (at_other T ok b okb [] none_are d apart))
     (same_or_not d b))
 
 -- ---- what a change of the choices of a block changes, by the laws on one route more or less

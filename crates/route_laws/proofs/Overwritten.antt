@@ -73,10 +73,6 @@ module _ {X : Type 0} (at : X → Block) where
       rising = put_rises at M x m.rising;
     }
 
-  module _ (M : List X) (m : AreAt M) (x : X) (ok : IsBlock (at x)) where
-    rest : AreAt (outside M (at x))
-    rest = outside_are M m (at x) ok
-
     -- the members
     pub over_back : (y : X) → In y (over M x) → (y ≡ x) ⊎ (In y M × (IsInside (at y) (at x) → ⊥))
     over_back y i = ⊎_elim (λ e. inl e) (λ t. inr (outside_back M m (at x) ok y t.0)) (put_back at (outside M (at x)) x y i)
@@ -84,18 +80,15 @@ module _ {X : Type 0} (at : X → Block) where
     pub over_other : (y : X) → In y M → (IsInside (at y) (at x) → ⊥) → In y (over M x)
     over_other y i f = put_other at (outside M (at x)) x y (outside_other M m (at x) ok y i f) (λ e. f (inside_itself (at y) (at x) e))
 
-    pub over_itself : In x (over M x)
-    over_itself = put_itself at (outside M (at x)) x
-
     -- it is the one list with these members
     pub over_is : (N : List X) → AreAt N → ((y : X) → In y N → (y ≡ x) ⊎ (In y M × (IsInside (at y) (at x) → ⊥))) → In x N → ((y : X) → In y M → (IsInside (at y) (at x) → ⊥) → In y N) → N ≡ over M x
-    over_is N t back itself other = same_rising (Earlier at) (λ y z. strict (at y) (at z)) N (over M x) t.rising (AreAt.rising (put_are (outside M (at x)) rest x ok))
-        (λ y i. ⊎_elim (λ e. subst (λ (z : X). In z (over M x)) (sym e) over_itself) (λ u. over_other y u.0 u.1) (back y i))
+    over_is N t back itself other = same_rising (Earlier at) (λ y z. strict (at y) (at z)) N (over M x) t.rising (put_rises at (outside M (at x)) x (outside_are M m (at x) ok).rising)
+        (λ y i. ⊎_elim (λ e. subst (λ (z : X). In z (over M x)) (sym e) (put_itself at (outside M (at x)) x)) (λ u. over_other y u.0 u.1) (back y i))
         (λ y i. ⊎_elim (λ e. subst (λ (z : X). In z N) (sym e) itself) (λ u. other y u.0 u.1) (over_back y i))
 
     -- where nothing lies strictly inside its block
     pub over_leaf : ((y : X) → In y (put at M x) → IsLarger (at x) (at y) → ⊥) → put at M x ≡ over M x
-    over_leaf leaf = over_is (put at M x) (put_are M m x ok)
+    over_leaf leaf = over_is (put at M x) put_are
         (λ y i. ⊎_elim (λ e. inl e) (λ t. inr (t.0, λ l. leaf y i (l, λ k. t.1 (same_sets (at y) (at x) (m.blocks y t.0) ok l k)))) (put_back at M x y i))
         (put_itself at M x)
         (λ y i out. put_other at M x y i (λ e. out (inside_itself (at y) (at x) e)))
@@ -107,29 +100,24 @@ module _ {X : Type 0} (at : X → Block) where
       okr : IsBlock (right (at x))
       okr = right_is_block (at x) ok h
 
-      whole : AreAt (put at M x)
-      whole = put_are M m x ok
-
       low : AreAt (outside (put at M x) (left (at x)))
-      low = outside_are (put at M x) whole (left (at x)) okl
+      low = outside_are (put at M x) put_are (left (at x)) okl
 
       abbrev emptied : List X
       emptied = outside (outside (put at M x) (left (at x))) (right (at x))
 
       kept : (y : X) → In y (put at M x) → (IsInside (at y) (left (at x)) → ⊥) → (IsInside (at y) (right (at x)) → ⊥) → In y emptied
-      kept y i f g = outside_other (outside (put at M x) (left (at x))) low (right (at x)) okr y (outside_other (put at M x) whole (left (at x)) okl y i f) g
+      kept y i f g = outside_other (outside (put at M x) (left (at x))) low (right (at x)) okr y (outside_other (put at M x) put_are (left (at x)) okl y i f) g
 
-      back : (y : X) → In y emptied → (y ≡ x) ⊎ (In y M × (IsInside (at y) (at x) → ⊥))
-      back y i =
+      pub over_halves : emptied ≡ over M x
+      over_halves = over_is emptied (outside_are (outside (put at M x) (left (at x))) low (right (at x)) okr)
+          (λ y i.
           let t = outside_back (outside (put at M x) (left (at x))) low (right (at x)) okr y i in
-          let u = outside_back (put at M x) whole (left (at x)) okl y t.0 in
+          let u = outside_back (put at M x) put_are (left (at x)) okl y t.0 in
           ⊎_elim
           (λ e. inl e)
           (λ w. inr (w.0, λ l. ⊎_elim u.1 t.1 (in_a_half (at x) ok h (at y) (m.blocks y w.0) (l, λ k. w.1 (same_sets (at y) (at x) (m.blocks y w.0) ok l k)))))
-          (put_back at M x y u.0)
-
-      pub over_halves : emptied ≡ over M x
-      over_halves = over_is emptied (outside_are (outside (put at M x) (left (at x))) low (right (at x)) okr) back
+          (put_back at M x y u.0))
           (kept x (put_itself at M x) (not_in_longer (at x) (left (at x)) ok okl (omega arith)) (not_in_longer (at x) (right (at x)) ok okr (omega arith)))
           (λ y i out. kept y (put_other at M x y i (λ e. out (inside_itself (at y) (at x) e)))
           (λ l. out (λ z k. left_inside (at x) ok h z (l z k)))
@@ -184,7 +172,7 @@ module _ (M : List Route) (m : IsTable M) (r : Route) (ok : IsBlock r.block) whe
       (λ e. governed_match (overwritten M r) (over_is_table hop) r.block ok x a (record {
         inside = has_from_test r.block x e;
         free = λ u c l k. ⊎_elim (λ f. l.1 (inside_itself r.block u.block (ap Route.block (sym f)))) (λ t. t.1 l.0) (over_back Route.block M (routes_placed M m) r ok u (In-from_Contains (overwritten M r) u c));
-      }) ∙ match_of_own (overwritten M r) (over_is_table hop) r (over_itself Route.block M (routes_placed M m) r ok))
+      }) ∙ match_of_own (overwritten M r) (over_is_table hop) r (put_itself Route.block (without_inside M r.block) r))
       (λ e. match_after_add (without_inside M r.block) r (host x) outside_is_table (over_is_table hop) (host_is_block x a)
       ∙ cond-false (is_inside (host x) r.block) (Some (longer r (match_of (without_inside M r.block) (host x)))) (match_of (without_inside M r.block) (host x))
       (false_from_ne_true (is_inside (host x) r.block) (λ f. let t = test_from_has r.block x (held_from_test x a r ok f) in cc))
@@ -201,18 +189,15 @@ module _ (M : List Route) (m : IsTable M) (r : Route) (ok : IsBlock r.block) whe
 -- ---- tables all of whose addresses of a block got one hop, by one change or by several
 
 module _ (M : List Route) (m : IsTable M) (r : Route) (ok : IsBlock r.block) where
-  out : IsTable (without_inside M r.block)
-  out = outside_is_table M m r ok
-
   -- what the routes outside hand down
   handed_down : (x : Address) → IsAddress x → HasAddress r.block x → hop_at (without_inside M r.block) x ≡ match_number (match_of (without_inside M r.block) r.block)
-  handed_down x a h = ap match_number (governed_match (without_inside M r.block) out r.block ok x a (record {
+  handed_down x a h = ap match_number (governed_match (without_inside M r.block) (outside_is_table M m r ok) r.block ok x a (record {
     inside = h;
     free = λ u c l k. (outside_back Route.block M (routes_placed M m) r.block ok u (In-from_Contains (without_inside M r.block) u c)).1 l.0;
   }))
 
   pub painted_is_table : IsHop r.hop → IsTable (painted M r)
-  painted_is_table hop = cond_both (same_number (match_number (match_of (without_inside M r.block) r.block)) (number_of r.hop)) (without_inside M r.block) (overwritten M r) IsTable (λ e. out) (λ e. over_is_table M m r ok hop)
+  painted_is_table hop = cond_both (same_number (match_number (match_of (without_inside M r.block) r.block)) (number_of r.hop)) (without_inside M r.block) (overwritten M r) IsTable (λ e. outside_is_table M m r ok) (λ e. over_is_table M m r ok hop)
 
   pub painted_hops : IsHop r.hop → (x : Address) → IsAddress x → hop_at (painted M r) x ≡ cond (has_address r.block x) (number_of r.hop) (hop_at M x)
   painted_hops hop x a = cond_both (same_number (match_number (match_of (without_inside M r.block) r.block)) (number_of r.hop)) (without_inside M r.block) (overwritten M r)
