@@ -8,7 +8,7 @@ use Rattle.ipnet_blocks.proofs.Maximals.{host_is_block, in_host, has_host, membe
 use Rattle.route_choices.specs.Hops.{IsHop, number_of}
 use Rattle.route_choices.specs.declared.hop.Hop.{Hop}
 use Rattle.route_choices.specs.declared.hop.Hop.TheVariants.{Number, Drop}
-use Rattle.route_laws.specs.Fewest.{GivenHops, HopsOfTable, AreHops}
+use Rattle.route_laws.specs.Fewest.{HopsOfTable, AreHops}
 use Rattle.route_laws.specs.Tables.{IsMatch, Route, match_of, match_number, IsTable, covering, hop_at, longer, longest, with_route}
 use Rattle.route_laws.proofs.Matches.{match_meets, match_from, none_from}
 use Rattle.ipnet_addr.specs.Addresses.{Address, IsAddress}
@@ -42,9 +42,6 @@ hops_of_table M table x a = ⊎_elim
     let member = (match_meets M table (host x) (host_is_block x a) t.0 t.1).member in
     rw t.1 (small_hop t.0.hop (In-from_All (λ (s : Route). IsHop s.hop) M table.hops t.0 (In-from_Contains M t.0 member))))
     (none_or_some (match_of M (host x)))
-
-pub given_hops : GivenHops
-given_hops h N given x a = subst Small (given.same x a) (hops_of_table N given.table x a)
 
 -- ---- networks added one after another, ascending; and hops, which do not depend on preferences
 
@@ -150,27 +147,15 @@ best_are : (ps : List Piece) → routes_of (map stored_for ps) ≡ map route_for
 best_are [] = refl
 best_are (p ∷ ps) = ap (λ rs. route_for p ∷ rs) (best_are ps)
 
-module _ (h : Address → Option ℕ) (ps : List Piece) (flat : IsFlat h ps) where
-  up : Rising Sooner ps
-  up = Rising-from_pairs Sooner ps flat.ascending
-
-  pub each_is : with_each [] ps ≡ map stored_for ps
-  each_is = added ps up
-
-  module _ (small : AreHops h) where
-    stored : IsStoredTable (map stored_for ps)
-    stored = stored_table_of (map stored_for ps)
-        (λ s i. let t = In-map stored_for ps s i in let k = piece_sound h ps small flat t.0 t.1 in subst IsGood (sym t.2) (k.0, (λ e. cc), one_is (choice_for t.0) k.1 (omega arith)))
-        (Rising-map Sooner Earlier stored_for (λ p q l. l) ps up)
-
-    readded_hops : HasHops h (routes_of (with_each [] ps))
-    readded_hops = subst (HasHops h) (sym (ap routes_of each_is ∙ best_are ps)) (flat_is_table h ps small flat)
-
 pub flat_readded : FlatReadded
 flat_readded h ps small flat =
-    let e = each_is h ps flat in
-    let t = readded_hops h ps flat small in
-    (subst IsStoredTable (sym e) (stored h ps flat small), ap routes_of e ∙ best_are ps, t, flat_moved (hop_at (routes_of (with_each [] ps))) h t.same ps flat)
+    let up = Rising-from_pairs Sooner ps flat.ascending in
+    let e = added ps up in
+    let t = subst (HasHops h) (sym (ap routes_of e ∙ best_are ps)) (flat_is_table h ps small flat) in
+    let stored = stored_table_of (map stored_for ps)
+    (λ s i. let t = In-map stored_for ps s i in let k = piece_sound h ps small flat t.0 t.1 in subst IsGood (sym t.2) (k.0, (λ e. cc), one_is (choice_for t.0) k.1 (omega arith)))
+    (Rising-map Sooner Earlier stored_for (λ p q l. l) ps up) in
+    (subst IsStoredTable (sym e) stored, ap routes_of e ∙ best_are ps, t, flat_moved (hop_at (routes_of (with_each [] ps))) h t.same ps flat)
 
 -- each piece comes after those before it
 pub readded_are_new : ReaddedAreNew

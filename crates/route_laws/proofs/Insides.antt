@@ -206,16 +206,18 @@ module _ (h : Address → Option ℕ) (L N : List Route) (gl : GivesInside h (fa
       at x Ipv4 k = joined_first (family_block Ipv4) (family_block Ipv6) (whole_is_block Ipv4) (whole_is_block Ipv6) apart separate order h None L N gl gn x k
       at x Ipv6 k = joined_second (family_block Ipv4) (family_block Ipv6) (whole_is_block Ipv4) (whole_is_block Ipv6) apart separate order h None L N gl gn x k
 
--- a table needs what its families need
-at_least : (h : Address → Option ℕ) (n m : ℕ) → IsFewest h (family_block Ipv4) None n → IsFewest h (family_block Ipv6) None m → (M : List Route) → HasHops h M → n + m ≤ length M
-at_least h n m a b M g = omega (arith, few (family_block Ipv4) (family_block Ipv6) (whole_is_block Ipv4) (whole_is_block Ipv6) apart separate order M, a.least (within (family_block Ipv4) M) (part_gives h M g Ipv4), b.least (within (family_block Ipv6) M) (part_gives h M g Ipv6))
-
 -- the fewest routes of both families, one after the other
 pub least_of_families : (h : Address → Option ℕ) (L N : List Route) → GivesInside h (family_block Ipv4) None L → GivesInside h (family_block Ipv6) None N
     → IsFewest h (family_block Ipv4) None (length L) → IsFewest h (family_block Ipv6) None (length N) → IsLeast h (L ++ N)
 least_of_families h L N gl gn a b = record {
   hops = both_have h L N gl gn;
-  fewest = λ M g. omega (arith, length-append L N, at_least h (length L) (length N) a b M g);
+  fewest = λ M g. omega (
+    arith,
+    length-append L N,
+    few (family_block Ipv4) (family_block Ipv6) (whole_is_block Ipv4) (whole_is_block Ipv6) apart separate order M,
+    a.least (within (family_block Ipv4) M) (part_gives h M g Ipv4),
+    b.least (within (family_block Ipv6) M) (part_gives h M g Ipv6),
+  );
 }
 
 module _ (h : Address → Option ℕ) (N : List Route) (least : IsLeast h N) where
@@ -296,7 +298,7 @@ free_of_large h small b ok j large N g = record {
   table = g.table;
   inside = g.inside;
   same = λ x m. (elim (match_of N (host x)) as (λ o. inherited (Some j) o ≡ h x → inherited None o ≡ h x) [
-    None ↦ λ e. let l : j < 2 ^ 32 = rw (← e) at (small x (member_is_address b x ok m)) in absurd (omega (arith, l, large))
+    | None ↦ λ e. let l : j < 2 ^ 32 = rw (← e) at (small x (member_is_address b x ok m)) in absurd (omega (arith, l, large))
     | Some r ↦ λ e. e
   ]) (g.same x m);
 }
@@ -392,17 +394,14 @@ module _ (h : Address → Option ℕ) (small : AreHops h) (b : Block) (ok : IsBl
       no_less (inr p) = omega (arith, p.1, l.under_any p.0)
 
   pub to_lesser : (s : Option ℕ) (n : ℕ) → IsFewest h b s n → IsLesser f g s n
-  to_lesser s n l = record {
-    reached = ⊎_elim (λ e. inl (omega (arith, e, l.reached.2, small_s))) (λ p. inr (p.0, omega (arith, p.1, l.reached.2, any p.0))) (needs s l.reached.0 l.reached.1);
-    under_s = small_s;
-    under_any = any;
-  }
-    where
-      small_s : n ≤ f s + g s
-      small_s = let u = under_same s in omega (arith, l.least u.0 u.1, u.2)
-
-      any : (k : Option ℕ) → n ≤ f k + g k + 1
-      any k = let u = under_other s k in omega (arith, l.least u.0 u.1, u.2)
+  to_lesser s n l =
+      let same : n ≤ f s + g s = (let u = under_same s in omega (arith, l.least u.0 u.1, u.2)) in
+      let any : (k : Option ℕ) → n ≤ f k + g k + 1 = λ k. let u = under_other s k in omega (arith, l.least u.0 u.1, u.2) in
+      record {
+        reached = ⊎_elim (λ e. inl (omega (arith, e, l.reached.2, same))) (λ p. inr (p.0, omega (arith, p.1, l.reached.2, any p.0))) (needs s l.reached.0 l.reached.1);
+        under_s = same;
+        under_any = any;
+      }
 
 -- the block of one address
 module _ (h : Address → Option ℕ) (small : AreHops h) (b : Block) (ok : IsBlock b) (whole : b.len ≡ width b.family) where

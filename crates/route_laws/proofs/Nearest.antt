@@ -4,11 +4,11 @@ use Rattle.ipnet_addr.proofs.Members.{In, In-cases, Distinct, no_more}
 use Rattle.ipnet_addr.proofs.Ascending.{Rising, Distinct-from_Rising}
 use Rattle.ipnet_blocks.specs.Blocks.{Block, IsBefore, IsBlock, IsInside, is_inside, same_block}
 use Rattle.ipnet_blocks.proofs.BlockLaws.{strict}
-use Rattle.route_choices.proofs.Kept.{Rising-kept, Rising-joined, In-map, In-filter}
-use Rattle.route_laws.specs.Tables.{Route, IsTable, match_of, match_number, hop_at}
+use Rattle.route_choices.proofs.Kept.{all_kept, Rising-kept, Rising-joined, In-map, In-filter}
+use Rattle.route_laws.specs.Tables.{Route, IsTable, match_of, match_number}
 use Rattle.route_laws.proofs.Ordered.{Rising-map, put_back, put_itself, put_other, same_or_not, gone_back, gone_other, not_from}
 use Rattle.route_laws.proofs.Insides.{Sooner, rising, same_in}
-use Rattle.route_laws.specs.Operations.{Operation, Install, Remove, after, after_all, between, installs, removes, missing, surplus, IsHitless}
+use Rattle.route_laws.specs.Operations.{is_held, Operation, Install, Remove, after, after_all, between, installs, removes, missing, surplus}
 use Rattle.route_laws.proofs.Between.{Later, after-append, between_reaches, falls, missing_back, reverse_In, surplus_back, between_hitless}
 use Rattle.std.proofs.lemmas.Bool.{and_from, cond_both}
 use Rattle.ipnet_blocks.proofs.BlockTests.{same_from_test}
@@ -20,8 +20,8 @@ use Rattle.route_laws.proofs.Matches.{block_in, test_from_inside}
 use Rattle.route_laws.proofs.Overwritten.{outside_back, outside_other, over_back, over_other, routes_placed, Changes, painted_all_is_table, painted_is_table, changes_from}
 use Rattle.route_laws.specs.Painted.{most_operations, painted, painted_all, strictly_inside}
 use Rattle.std.proofs.lemmas.List.{length-map, length-reverse}
-use Rattle.route_laws.specs.LeastTables.{HasHops, IsLeast}
-use Rattle.route_laws.specs.Nearest.{IsFewestTo, IsNearest, FewestIsNearest, LeastIsNearest, NearestIsBounded, NearestIsFewest, NearestIsHitless, UpdatesAreBounded, UpdatesAreFewest, UpdatesAreHitless}
+use Rattle.route_laws.specs.LeastTables.{HasHops}
+use Rattle.route_laws.specs.Nearest.{FewestIsNearest, LeastIsNearest, NearestIsBounded, NearestIsFewest, NearestIsHitless}
 
 -- a route that was not there is installed
 pub is_installed : (M : List Route) (L : List Operation) (r : Route) → In r (after_all M L) → In r M ⊎ In (Install r) L
@@ -184,31 +184,14 @@ nearest_is_bounded M rs N m c n =
     let k = changes_from rs c in
     omega (arith, n.nearest (painted_all M rs) (record { table = painted_all_is_table M rs m k; same = λ x a. refl }), counted_all M rs m k)
 
--- ---- updates
-
-pub updates_are_fewest : UpdatesAreFewest
-updates_are_fewest M rs os m u = subst (IsFewestTo M (hop_at (painted_all M rs))) (sym u.operations) (nearest_is_fewest M (hop_at (painted_all M rs)) u.table m u.nearest)
-
-pub updates_are_hitless : UpdatesAreHitless
-updates_are_hitless M rs os m u = subst (IsHitless M) (sym u.operations) (nearest_is_hitless M (hop_at (painted_all M rs)) u.table m u.nearest)
-
-pub updates_are_bounded : UpdatesAreBounded
-updates_are_bounded M rs os m c u = subst (λ l. length l ≤ most_operations M rs) (sym u.operations) (nearest_is_bounded M rs u.table m c u.nearest)
-
 -- ---- the empty table
 
-all_missing : (N : List Route) → missing [] N ≡ N
-all_missing [] = refl
-all_missing (r ∷ N) = ap (λ M. r ∷ M) (all_missing N)
-
 from_nothing : (N : List Route) → length (between [] N) ≡ length N
-from_nothing N = ap length (append-nil (installs (reverse (missing [] N)))) ∙ length-map (reverse (missing [] N)) Install ∙ length-reverse (missing [] N) ∙ ap length (all_missing N)
+from_nothing N = ap length (append-nil (installs (reverse (missing [] N)))) ∙ length-map (reverse (missing [] N)) Install ∙ length-reverse (missing [] N)
+    ∙ ap length (all_kept (λ r. not (is_held [] r)) N (λ r i. refl))
 
 pub least_is_nearest : LeastIsNearest
-least_is_nearest h N = (to, from)
-  where
-    to : IsLeast h N → IsNearest [] h N
-    to l = record { hops = l.hops; nearest = λ L g. omega (arith, l.fewest L g, from_nothing N, from_nothing L) }
-
-    from : IsNearest [] h N → IsLeast h N
-    from n = record { hops = n.hops; fewest = λ L g. omega (arith, n.nearest L g, from_nothing N, from_nothing L) }
+least_is_nearest h N = (
+  (λ l. record { hops = l.hops; nearest = λ L g. omega (arith, l.fewest L g, from_nothing N, from_nothing L) }),
+  (λ n. record { hops = n.hops; fewest = λ L g. omega (arith, n.nearest L g, from_nothing N, from_nothing L) }),
+)

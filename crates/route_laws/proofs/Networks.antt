@@ -1,5 +1,5 @@
 -- Tables with several choices a network: what a change leaves, and the table of the best routes.
-use Rattle.std.proofs.Common.{◌≡◌, ◌≢◌, ◌<◌, ◌^◌, ◌⊎◌, inl, inr, ⊎_elim, Bool, false, not, cond, List, [], ◌∷◌, ◌++◌, Some, MatchOption, filter, map, refl, sym, ap, ◌∙◌, subst, ◌↔◌, Contains}
+use Rattle.std.proofs.Common.{◌≡◌, ◌≢◌, ◌<◌, ◌^◌, ◌⊎◌, inl, inr, ⊎_elim, Bool, not, cond, List, [], ◌∷◌, ◌++◌, Some, MatchOption, filter, map, refl, sym, ap, ◌∙◌, subst, ◌↔◌, Contains}
 use Rattle.std.proofs.lemmas.List.{map-append}
 use Rattle.std.proofs.lemmas.Bool.{cases_Bool, cond-false, cond-true}
 use Rattle.ipnet_addr.proofs.Members.{In}
@@ -48,15 +48,9 @@ pub routes_with_choices : (T : List Stored) (b : Block) (cs : List Choice) → (
 routes_with_choices T b [] some = absurd (some refl)
 routes_with_choices T b (c ∷ cs) some = routes_with T (record { block = b; choices = c ∷ cs })
 
-pub routes_of_add : (T : List Stored) (b : Block) (c : Choice) → routes_of (with_choice T b c) ≡ with_route (routes_of T) (best_route (record { block = b; choices = choices_with (choices_at T b) c }))
-routes_of_add T b c = routes_with_choices T b (choices_with (choices_at T b) c) (with_some (choices_at T b) c)
-
-routes_left : (T : List Stored) (b : Block) (cs : List Choice) → MatchOption (best cs) (routes_of (with_choices T b cs) ≡ without_block (routes_of T) b) (λ d. routes_of (with_choices T b cs) ≡ with_route (routes_of T) (record { block = b; hop = d.hop; pref = d.pref }))
+pub routes_left : (T : List Stored) (b : Block) (cs : List Choice) → MatchOption (best cs) (routes_of (with_choices T b cs) ≡ without_block (routes_of T) b) (λ d. routes_of (with_choices T b cs) ≡ with_route (routes_of T) (record { block = b; hop = d.hop; pref = d.pref }))
 routes_left T b [] = routes_without T b
 routes_left T b (c ∷ cs) = routes_with T (record { block = b; choices = c ∷ cs })
-
-pub routes_of_del : (T : List Stored) (b : Block) (h : Hop) → MatchOption (best (choices_without (choices_at T b) h)) (routes_of (without_choice T b h) ≡ without_block (routes_of T) b) (λ d. routes_of (without_choice T b h) ≡ with_route (routes_of T) (record { block = b; hop = d.hop; pref = d.pref }))
-routes_of_del T b h = routes_left T b (choices_without (choices_at T b) h)
 
 -- ---- a table stays a table
 
@@ -137,9 +131,6 @@ module _ (T : List Stored) (ok : IsStoredTable T) where
       (λ t. subst (λ (s : Stored). In s T) (λ i. record { block = t.2 i; choices = sym t.3 i }) t.1)
       (λ t. absurd (some t.1))
       (at_cases T b)
-
-  pub add_is : (b : Block) (c : Choice) → IsBlock b → IsHop c.hop → c.pref < 2 ^ 16 → is_one_too_many (choices_at T b) c.hop ≡ false → IsStoredTable (with_choice T b c)
-  add_is b c okb hop pref e = with_choices_is T ok b (choices_with (choices_at T b) c) okb (with_are (choices_at T b) (at_are b) c hop pref e)
 
   pub del_is : (b : Block) (h : Hop) → IsBlock b → IsStoredTable (without_choice T b h)
   del_is b h okb = with_choices_is T ok b (choices_without (choices_at T b) h) okb (without_are (choices_at T b) (at_are b) h)

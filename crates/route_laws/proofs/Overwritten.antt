@@ -24,7 +24,7 @@ use Rattle.route_laws.proofs.Matches.{block_in, governed_match, inside_from_test
 use Rattle.route_laws.proofs.Networks.{routes_with, stored_block, stored_kept}
 use Rattle.route_laws.proofs.Ordered.{Earlier, put, put_back, put_itself, put_other, put_rises, not_cases, not_from, alone}
 use Rattle.std.proofs.lemmas.List.Elements.{All-map}
-use Rattle.ipnet_blocks.specs.Maximal.{IsMaximal, IsMaximalBlock}
+use Rattle.ipnet_blocks.specs.Maximal.{IsMaximal}
 use Rattle.route_choices.specs.declared.hop.Hop.{Hop}
 use Rattle.route_laws.specs.Changes.{same_number}
 use Rattle.route_laws.specs.Painted.{AreChanges, changes_to, hop_over, painted, painted_all}
@@ -231,12 +231,9 @@ painted_all_hops M (r ∷ rs) m c x a =
 
 pub told_are_changes : (S : Address → Type 0) (bs : List Block) (hop : Hop) → IsMaximal S bs → IsHop hop → AreChanges (changes_to hop bs)
 told_are_changes S bs hop m k = record {
-  blocks = All-map (λ r. IsBlock r.block) (λ b. record { block = b; hop = hop; pref = default_preference }) bs (All-from_In IsBlock bs (λ b i. (all b i).within.block));
+  blocks = All-map (λ r. IsBlock r.block) (λ b. record { block = b; hop = hop; pref = default_preference }) bs (All-from_In IsBlock bs (λ b i. ((m.exact b).0 (Contains-from_In bs b i)).within.block));
   hops = All-map (λ r. IsHop r.hop) (λ b. record { block = b; hop = hop; pref = default_preference }) bs (All-from_In (λ b. IsHop hop) bs (λ b i. k));
 }
-  where
-    all : (b : Block) → In b bs → IsMaximalBlock S b
-    all b i = (m.exact b).0 (Contains-from_In bs b i)
 
 -- ---- what the routes outside a block hand down is the match of its parent
 

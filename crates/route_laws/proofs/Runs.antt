@@ -1,5 +1,6 @@
 -- An installer's table has the hops that were told, and its operations make it.
-use Rattle.std.proofs.Common.{◌≡◌, ◌≤◌, length, ℕ, ⊎_elim, arith, Bool, true, false, List, [], ◌∷◌, ◌++◌, Option, None, refl, sym, ap, ◌∙◌}
+use Rattle.std.proofs.Common.{◌≡◌, ℕ, ⊎_elim, arith, Bool, true, false, List, [], ◌∷◌, ◌++◌, Option, None, refl, sym, ap, ◌∙◌}
+use Rattle.std.proofs.lemmas.List.{nil_from_length}
 use Rattle.ipnet_addr.specs.Addresses.{Address, IsAddress}
 use Rattle.route_laws.specs.Nearest.{IsNearest}
 use Rattle.route_laws.specs.OperationLaws.{GivenReaches, GivesHitless, GivesWhatItSays, KeepsHops, SyncIsLeast, SyncIsUnseen, SyncStays, ToldIsFewest}
@@ -7,7 +8,7 @@ use Rattle.route_laws.specs.LeastTables.{HasHops}
 use Rattle.route_laws.specs.Tables.{Route, IsTable, hop_at, with_route}
 use Rattle.route_laws.proofs.Insides.{hops_moved, least_too, empty_is_table}
 use Rattle.route_laws.proofs.Alterations.{added_is_table}
-use Rattle.route_laws.specs.Operations.{IsHitless, Operation, after_all, between}
+use Rattle.route_laws.specs.Operations.{IsHitless, after_all, between}
 use Rattle.route_laws.specs.Painted.{AreChanges, hop_over, painted_all}
 use Rattle.route_laws.specs.Runs.{Event, Have, Told, Sync, Installer, IsMade, MayCome, MayAllCome, after_event, after_events, given, gives, start, told, with_haves}
 use Rattle.route_laws.proofs.Between.{after-append, between_hitless, between_reaches, hitless_from}
@@ -117,11 +118,7 @@ sync_is_unseen es N m k x a i =
 
 -- a table takes no operations to stay
 pub none_between : (M : List Route) → IsTable M → between M M ≡ []
-none_between M m = nothing (between M M) (fewest M M m m [] refl)
-  where
-    nothing : (os : List Operation) → length os ≤ 0 → os ≡ []
-    nothing [] b = refl
-    nothing (o ∷ os) b = absurd (omega (arith, b))
+none_between M m = nil_from_length (between M M) (omega (arith, fewest M M m m [] refl))
 
 pub sync_stays : SyncStays
 sync_stays es N m k l =
