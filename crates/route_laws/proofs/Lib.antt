@@ -22,5 +22,4 @@ pub mod Turning
 pub mod Between
 pub mod Painted
 pub mod Inherited
-pub mod Nearest
 pub mod Runs

@@ -11,8 +11,7 @@ use Rattle.route_laws.proofs.Alterations.{added_is_table}
 use Rattle.route_laws.specs.Operations.{IsHitless, after_all, between}
 use Rattle.route_laws.specs.Painted.{AreChanges, hop_over, painted_all}
 use Rattle.route_laws.specs.Runs.{Event, Have, Told, Sync, Installer, IsMade, MayCome, MayAllCome, after_event, after_events, given, gives, start, told, with_haves}
-use Rattle.route_laws.proofs.Between.{after-append, between_hitless, between_reaches, hitless_from}
-use Rattle.route_laws.proofs.Nearest.{fewest, nearest_is_fewest}
+use Rattle.route_laws.proofs.Between.{after-append, between_hitless, between_reaches, hitless_from, fewest, nearest_is_fewest}
 use Rattle.route_laws.proofs.Overwritten.{changes_from, painted_all_hops, painted_all_is_table}
 
 -- a state in which h was told

@@ -1,4 +1,4 @@
-use Rattle.route_laws.proofs.Nearest.{fewest_is_nearest, least_is_nearest, nearest_is_bounded, nearest_is_fewest, nearest_is_hitless}
+use Rattle.route_laws.proofs.Between.{fewest_is_nearest, least_is_nearest, nearest_is_bounded, nearest_is_fewest, nearest_is_hitless}
 use Rattle.route_laws.proofs.operations.nearest.Goals as goal
 
 pub returns : goal.returns

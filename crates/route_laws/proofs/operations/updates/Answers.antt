@@ -1,6 +1,6 @@
 use Rattle.route_laws.specs.Painted.{painted_all}
 use Rattle.route_laws.specs.Tables.{hop_at}
-use Rattle.route_laws.proofs.Nearest.{nearest_is_bounded, nearest_is_fewest, nearest_is_hitless}
+use Rattle.route_laws.proofs.Between.{nearest_is_bounded, nearest_is_fewest, nearest_is_hitless}
 use Rattle.route_laws.proofs.operations.updates.Goals as goal
 
 pub returns : goal.returns
