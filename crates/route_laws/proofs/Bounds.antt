@@ -2,7 +2,8 @@
 -- block governs few blocks.
 use Rattle.std.proofs.Common.{◌≡◌, ℕ, zero, suc, ◌+◌, ◌-◌, ◌<◌, ◌≤◌, inl, inr, ⊎_elim, ◌&&◌, not, Bool, true, false, cond, nat_lt, List, [], ◌∷◌, ◌++◌, length, sum_by, Option, Some, None, refl, sym, ap, ◌∙◌, subst, arith, length-append, filter}
 use Rattle.std.specs.List.{list_any}
-use Rattle.std.proofs.lemmas.Bool.{and_parts, and_from, and_right, cases_lt, cond-false, cond-true, lt-ltb, ltb-true, not_from_true}
+use Rattle.std.proofs.lemmas.Bool.{cond_both, and_parts, and_from, and_right, cases_lt, cond-false, cond-true, lt-ltb, ltb-true, not_from_true}
+use Rattle.std.proofs.lemmas.Bool.Decides.{nat_tests}
 use Rattle.std.proofs.lemmas.List.Sums.{sum_by-cons, sum_by-le-sum_by}
 use Rattle.std.proofs.lemmas.Option.{cond_some, none-some}
 use Rattle.ipnet_addr.specs.Addresses.{Address, Family, width, same_family}
@@ -25,46 +26,23 @@ use Rattle.ipnet_addr.proofs.Families.{family_from_test, test_from_family}
 use Rattle.ipnet_blocks.proofs.Maximals.{member_is_address}
 use Rattle.route_choices.proofs.Kept.{In-filter, In-from_filter, Rising-kept}
 
--- whether a block lies inside another and is longer by more than d, and by how much more
-unfoldable pub is_longer : ℕ → Block → Block → Bool
-is_longer d t b = is_inside b t && nat_lt (t.len + d) b.len
-
+-- by how much more than d a route inside a block is longer than it, and whether it is
 unfoldable pub weight : ℕ → Block → Route → ℕ
-weight d t r = cond (is_longer d t r.block) (r.block.len - (t.len + d)) 0
+weight d t r = cond (is_inside r.block t) (r.block.len - (t.len + d)) 0
 
 unfoldable pub count : ℕ → Block → Route → ℕ
-count d t r = cond (is_longer d t r.block) 1 0
+count d t r = cond (is_inside r.block t && nat_lt (t.len + d) r.block.len) 1 0
 
-longer_parts : (d : ℕ) (t b : Block) → IsBlock t → IsBlock b → is_longer d t b ≡ true → IsInside b t × (t.len + d < b.len)
-unfolding is_longer
-longer_parts d t b ok k e = let p = and_parts (is_inside b t) (nat_lt (t.len + d) b.len) e in (inside_from_test b t k ok p.0, ltb-true _ _ p.1)
-
-pub longer_from : (d : ℕ) (t b : Block) → IsBlock t → IsBlock b → IsInside b t → t.len + d < b.len → is_longer d t b ≡ true
-unfolding is_longer
-longer_from d t b ok k i l = and_from (is_inside b t) (nat_lt (t.len + d) b.len) (test_from_inside b t k ok i) (lt-ltb _ _ l)
-
-pub cond_less : (a b : Bool) (x y : ℕ) → (a ≡ true → b ≡ true) → x ≤ y → cond a x 0 ≤ cond b y 0
-cond_less true true x y h l = l
-cond_less true false x y h l = let e = h refl in absurd (cc)
-cond_less false b x y h l = omega arith
-
-halves_of : (a b c : Bool) (m l n : ℕ) → l ≡ n + 1 → (a ≡ true → (c ≡ true) × (l < m)) → (b ≡ true → (c ≡ true) × (l < m)) → (a ≡ true → b ≡ true → ⊥) → (c ≡ true → n < m) → cond a (m - l) 0 + cond b (m - l) 0 + cond c 1 0 ≤ cond c (m - n) 0
-halves_of true true c m l n e f g both h = absurd (both refl refl)
-halves_of true false c m l n e f g both h = let k = f refl in rw (k.0) (omega (arith, k.1, e))
-halves_of false true c m l n e f g both h = let k = g refl in rw (k.0) (omega (arith, k.1, e))
-halves_of false false true m l n e f g both h = let k = h refl in omega arith
-halves_of false false false m l n e f g both h = omega arith
+halves_of : (a b c : Bool) (m l n : ℕ) → l ≡ n + 1 → (a ≡ true → c ≡ true) → (b ≡ true → c ≡ true) → (a ≡ true → b ≡ true → ⊥) → cond a (m - l) 0 + cond b (m - l) 0 + cond (c && nat_lt n m) 1 0 ≤ cond c (m - n) 0
+halves_of true true c m l n e f g both = absurd (both refl refl)
+halves_of true false c m l n e f g both = rw (f refl) (grind (arith, nat_tests, e))
+halves_of false true c m l n e f g both = rw (g refl) (grind (arith, nat_tests, e))
+halves_of false false c m l n e f g both = grind (arith, nat_tests)
 
 -- the halves together have a route one less long than the whole
 module _ (d : ℕ) (t : Block) (ok : IsBlock t) (room : 0 < free_bits t) where
-  module _ (b : Block) (k : IsBlock b) where
-    in_half : (c : Block) → IsBlock c → IsInside c t → c.len ≡ t.len + 1 → is_longer d c b ≡ true → (is_longer d t b ≡ true) × (t.len + 1 + d < b.len)
-    in_half c okc i l e = let p = longer_parts d c b okc k e in (longer_from d t b ok k (λ x h. i x (p.0 x h)) (omega (arith, l, p.1)), omega (arith, l, p.1))
-
-    not_both : is_longer d (left t) b ≡ true → is_longer d (right t) b ≡ true → ⊥
-    not_both e f =
-        let o = halves_in_order t b b (longer_parts d (left t) b (left_is_block t ok room) k e).0 (longer_parts d (right t) b (right_is_block t ok room) k f).0 in
-        strict b b o o
+  in_half : (b c : Block) → IsBlock b → IsBlock c → IsInside c t → is_inside b c ≡ true → is_inside b t ≡ true
+  in_half b c k okc i e = test_from_inside b t k ok (λ x h. i x (inside_from_test b c k okc e x h))
 
   pub halves_all : (rs : List Route) → ((r : Route) → In r rs → IsBlock r.block) → sum_by (weight d (left t)) rs + sum_by (weight d (right t)) rs + sum_by (count d t) rs ≤ sum_by (weight d t) rs
   unfolding weight count
@@ -72,17 +50,21 @@ module _ (d : ℕ) (t : Block) (ok : IsBlock t) (room : 0 < free_bits t) where
   halves_all (r ∷ rs) k =
       let b = r.block in
       let p = k r (inl refl) in
-      let h = halves_of (is_longer d (left t) b) (is_longer d (right t) b) (is_longer d t b) b.len (t.len + 1 + d) (t.len + d) (omega arith)
-      (in_half b p (left t) (left_is_block t ok room) (left_inside t ok room) refl) (in_half b p (right t) (right_is_block t ok room) (right_inside t ok room) refl) (not_both b p) (λ e. (longer_parts d t b ok p e).1) in
+      let okl = left_is_block t ok room in
+      let okr = right_is_block t ok room in
+      let not_both = λ (e : is_inside b (left t) ≡ true) (f : is_inside b (right t) ≡ true).
+          let o = halves_in_order t b b (inside_from_test b (left t) p okl e) (inside_from_test b (right t) p okr f) in strict b b o o in
+      let h = halves_of (is_inside b (left t)) (is_inside b (right t)) (is_inside b t) b.len (t.len + 1 + d) (t.len + d) (omega arith)
+          (in_half b (left t) p okl (left_inside t ok room)) (in_half b (right t) p okr (right_inside t ok room)) not_both in
       omega (arith, h, halves_all rs (λ s j. k s (inr j)), sum_by-cons (weight d (left t)) r rs, sum_by-cons (weight d (right t)) r rs, sum_by-cons (count d t) r rs, sum_by-cons (weight d t) r rs)
 
-pub none_longer : (d : ℕ) (t : Block) (rs : List Route) → sum_by (count d t) rs ≡ 0 → (r : Route) → In r rs → is_longer d t r.block ≡ true → ⊥
+pub none_longer : (d : ℕ) (t : Block) (rs : List Route) → sum_by (count d t) rs ≡ 0 → (r : Route) → In r rs → is_inside r.block t ≡ true → t.len + d < r.block.len → ⊥
 unfolding count
-none_longer d t [] e r i h = i
-none_longer d t (s ∷ rs) e r i h =
+none_longer d t [] e r i h l = i
+none_longer d t (s ∷ rs) e r i h l =
     let c = sum_by-cons (count d t) s rs in
-    ⊎_elim (λ q. let one : count d t s ≡ 1 = ap (λ b. cond b 1 0) (ap (λ (u : Route). is_longer d t u.block) (sym q) ∙ h) in absurd (omega arith))
-    (λ j. none_longer d t rs (omega arith) r j h) i
+    ⊎_elim (λ q. let one : count d t s ≡ 1 = rw (← q, h) (ap (λ b. cond b 1 0) (lt-ltb _ _ l)) in absurd (omega arith))
+    (λ j. none_longer d t rs (omega arith) r j h l) i
 
 -- ---- the pieces inside a block
 
@@ -105,15 +87,10 @@ module _ (h : Address → Option ℕ) where
   module _ (cost : Block → ℕ) where
     -- a block has no hop, or one; or its halves cost one less than the whole, or no more where one of them has no hop
     pub data Rule (t : Block) : Type 0 where
-      Bare : IsBare t → Rule t
-      One : HasOneHop h t → Rule t
+      Even : (o : Option ℕ) → ((x : Address) → HasAddress t x → h x ≡ o) → Rule t
       Less : cost (left t) + cost (right t) + 1 ≤ cost t → Rule t
       Low : IsBare (left t) → cost (left t) + cost (right t) ≤ cost t → Rule t
       High : IsBare (right t) → cost (left t) + cost (right t) ≤ cost t → Rule t
-
-    pub even : (t : Block) → IsBlock t → (o : Option ℕ) → ((x : Address) → HasAddress t x → h x ≡ o) → Rule t
-    even t ok None f = Bare f
-    even t ok (Some n) f = One (record { block = ok; number = n; all = f })
 
     module _ (n : Block) (rule : (t : Block) → IsBlock t → IsInside t n → 0 < free_bits t → Rule t) where
       pub few_by : (k : ℕ) (t : Block) → IsBlock t → IsInside t n → free_bits t ≡ k → length (flat_in h k t) ≤ 1 + cost t
@@ -125,40 +102,44 @@ module _ (h : Address → Option ℕ) where
           room : 0 < free_bits t
           room = omega arith
 
-          no_low : IsBare (left t) → length (flat_in h k (left t)) ≡ 0
-          no_low f = ap length (no_hop_here k (left t) (left_is_block t ok room) (omega arith) f)
-
-          no_high : IsBare (right t) → length (flat_in h k (right t)) ≡ 0
-          no_high f = ap length (no_hop_here k (right t) (right_is_block t ok room) (omega arith) f)
+          empty : (c : Block) → IsBlock c → free_bits c ≡ k → IsBare c → length (flat_in h k c) ≡ 0
+          empty c okc ec f = ap length (no_hop_here k c okc ec f)
 
           by : one_hop_in h (suc k) t ≡ None → Rule t → length (flat_in h k (left t)) ≤ 1 + cost (left t) → length (flat_in h k (right t)) ≤ 1 + cost (right t) → length (flat_in h k (left t) ++ flat_in h k (right t)) ≤ 1 + cost t
-          by q (Bare f) low high = omega (arith, length-append (flat_in h k (left t)) (flat_in h k (right t)), no_low (λ x m. f x (left_inside t ok room x m)), no_high (λ x m. f x (right_inside t ok room x m)))
-          by q (One w) low high = absurd (not_one h (suc k) t ok e q w)
+          by q (Even None f) low high = omega (arith, length-append (flat_in h k (left t)) (flat_in h k (right t)), empty (left t) (left_is_block t ok room) (omega arith) (λ x m. f x (left_inside t ok room x m)), empty (right t) (right_is_block t ok room) (omega arith) (λ x m. f x (right_inside t ok room x m)))
+          by q (Even (Some m) f) low high = absurd (not_one h (suc k) t ok e q (record { block = ok; number = m; all = f }))
           by q (Less l) low high = omega (arith, length-append (flat_in h k (left t)) (flat_in h k (right t)), low, high, l)
-          by q (Low f l) low high = omega (arith, length-append (flat_in h k (left t)) (flat_in h k (right t)), no_low f, high, l)
-          by q (High f l) low high = omega (arith, length-append (flat_in h k (left t)) (flat_in h k (right t)), low, no_high f, l)
+          by q (Low f l) low high = omega (arith, length-append (flat_in h k (left t)) (flat_in h k (right t)), empty (left t) (left_is_block t ok room) (omega arith) f, high, l)
+          by q (High f l) low high = omega (arith, length-append (flat_in h k (left t)) (flat_in h k (right t)), low, empty (right t) (right_is_block t ok room) (omega arith) f, l)
 
 -- ---- the blocks that a block governs
 
 module _ (M : List Route) (table : IsTable M) (n : Block) (ok : IsBlock n) where
+  -- a block strictly inside n
+  abbrev deeper : Block → Bool
+  deeper b = is_inside b n && nat_lt n.len b.len
+
   abbrev covered : Address → Bool
-  covered x = list_any (λ r. is_longer 0 n r.block && has_address r.block x) M
+  covered x = list_any (λ r. deeper r.block && has_address r.block x) M
 
   -- one hop where n governs, and none elsewhere
   abbrev hop : Address → Option ℕ
   hop x = cond (has_address n x && not (covered x)) (Some 0) None
 
   covers : (r : Route) → In r M → IsLarger n r.block → (x : Address) → HasAddress r.block x → covered x ≡ true
-  covers r i l x h = list_any-from_In (λ r. is_longer 0 n r.block && has_address r.block x) M r i
-      (and_from (is_longer 0 n r.block) (has_address r.block x) (longer_from 0 n r.block ok (block_in M table r i) l.0 (let s = larger_is_shorter n r.block ok (block_in M table r i) l in omega arith)) (test_from_has r.block x h))
+  covers r i l x h =
+      let k = block_in M table r i in
+      list_any-from_In (λ r. deeper r.block && has_address r.block x) M r i
+      (rw (test_from_inside r.block n k ok l.0, lt-ltb _ _ (larger_is_shorter n r.block ok k l)) (test_from_has r.block x h))
 
   covered_by : (x : Address) → covered x ≡ true → (r : Route) × In r M × IsLarger n r.block × HasAddress r.block x
   covered_by x e =
-      let t = In-from_list_any (λ r. is_longer 0 n r.block && has_address r.block x) M e in
-      let p = and_parts (is_longer 0 n (Route.block t.0)) (has_address (Route.block t.0) x) t.2 in
+      let t = In-from_list_any (λ r. deeper r.block && has_address r.block x) M e in
+      let b = t.0.block in
+      let p = and_parts (deeper b) (has_address b x) t.2 in
+      let q = and_parts (is_inside b n) (nat_lt n.len b.len) p.0 in
       let k = block_in M table t.0 t.1 in
-      let q = longer_parts 0 n (Route.block t.0) ok k p.0 in
-      (t.0, t.1, (q.0, λ back. absurd (omega (arith, q.1, (numbers_from_inside n (Route.block t.0) ok k back).long))), has_from_test (Route.block t.0) x p.1)
+      (t.0, t.1, (inside_from_test b n k ok q.0, λ back. absurd (omega (arith, ltb-true _ _ q.1, (numbers_from_inside n b ok k back).long))), has_from_test b x p.1)
 
   hop_of_governed : (x : Address) → Governed M n x → hop x ≡ Some 0
   hop_of_governed x g = cond-true (has_address n x && not (covered x)) (Some 0) None (and_from (has_address n x) (not (covered x)) (test_from_has n x g.inside)
@@ -188,7 +169,7 @@ module _ (M : List Route) (table : IsTable M) (n : Block) (ok : IsBlock n) where
 
           at : (c : Block) → IsInside r.block c → c.len ≡ t.len + 1 → IsLarger t r.block → r.block ≡ c
           at c k l larger = same_length r.block c (first_of r.block) (has_first r.block) (k (first_of r.block) (has_first r.block))
-              (let s = larger_is_shorter t r.block okt okr larger in ⊎_elim (λ long. absurd (none_longer 1 t M none r j (longer_from 1 t r.block okt okr larger.0 long))) (λ short. omega arith) (cases_lt (t.len + 1) (Block.len r.block)))
+              (let s = larger_is_shorter t r.block okt okr larger in ⊎_elim (λ long. absurd (none_longer 1 t M none r j (test_from_inside r.block t okr okt larger.0) long)) (λ short. omega arith) (cases_lt (t.len + 1) (Block.len r.block)))
 
       moves : (x y : Address) → HasAddress t x → HasAddress t y → covered x ≡ true → covered y ≡ true
       moves x y m k e = let s = covered_by x e in covers s.0 s.1 s.2 y (lies s.0 s.1 x m s.3 y k)
@@ -212,14 +193,13 @@ module _ (M : List Route) (table : IsTable M) (n : Block) (ok : IsBlock n) where
             (λ s. Low (bare_half (left t) (left_is_block t okt room) (left_inside t okt room) refl s.0 s.1 s.2) (omega (arith, halves)))
             (λ no_left. ⊎_elim
             (λ s. High (bare_half (right t) (right_is_block t okt room) (right_inside t okt room) refl s.0 s.1 s.2) (omega (arith, halves)))
-            (λ no_right. even hop (λ t. sum_by (weight 1 t) M) t okt (hop (first_of t)) (steady z no_left no_right))
+            (λ no_right. Even (hop (first_of t)) (steady z no_left no_right))
             (one_or_all (λ r. r.block ≡ right t) (λ r. r.block ≡ right t → ⊥) M (λ r j. same_or_not r.block (right t))))
             (one_or_all (λ r. r.block ≡ left t) (λ r. r.block ≡ left t → ⊥) M (λ r j. same_or_not r.block (left t)))
 
 excess_of : (n : Block) (r : Route) → weight 1 n r ≤ excess n r.block
-unfolding weight is_longer
-excess_of n r = cond_less (is_inside r.block n && nat_lt (n.len + 1) r.block.len) (is_inside r.block n && nat_lt n.len r.block.len) (r.block.len - (n.len + 1)) (r.block.len - n.len - 1)
-    (λ e. let p = and_parts (is_inside r.block n) (nat_lt (n.len + 1) r.block.len) e in let l = ltb-true _ _ p.1 in and_from (is_inside r.block n) (nat_lt n.len r.block.len) p.0 (lt-ltb _ _ (omega arith))) (omega arith)
+unfolding weight
+excess_of n r = grind (arith, nat_tests)
 
 -- the maximal blocks are among the pieces that a search finds
 pub governed_bound : (M : List Route) (n : Block) (bs : List Block) → IsTable M → IsBlock n → IsMaximal (Governed M n) bs → length bs ≤ 1 + sum_by (λ r. excess n r.block) M
@@ -247,14 +227,14 @@ module _ (M : List Route) (table : IsTable M) where
     free = λ r c l has.
         let i = In-from_Contains M r c in
         let s = larger_is_shorter t r.block ok (block_in M table r i) l in
-        none_longer 0 t M e r i (longer_from 0 t r.block ok (block_in M table r i) l.0 (omega arith));
+        none_longer 0 t M e r i (test_from_inside r.block t (block_in M table r i) ok l.0) (omega arith);
   }))
 
   few_pieces : (k : ℕ) (t : Block) → IsBlock t → free_bits t ≡ k → length (flat_in (hop_at M) k t) ≤ 1 + sum_by (weight 0 t) M
   few_pieces k n okn = few_by (hop_at M) (λ t. sum_by (weight 0 t) M) n (λ t ok i room. by t ok room (sum_by (count 0 t) M) refl) k n okn (λ x m. m)
     where
       by : (t : Block) → IsBlock t → 0 < free_bits t → (c : ℕ) → sum_by (count 0 t) M ≡ c → Rule (hop_at M) (λ t. sum_by (weight 0 t) M) t
-      by t ok room zero z = even (hop_at M) (λ t. sum_by (weight 0 t) M) t ok (match_number (match_of M t)) (steady_below t ok z)
+      by t ok room zero z = Even (match_number (match_of M t)) (steady_below t ok z)
       by t ok room (suc c) z = Less (omega (arith, z, halves_all 0 t ok room M (block_in M table)))
 
 -- ---- the pieces of a family
@@ -269,9 +249,9 @@ kept_sum f p (x ∷ xs) = sum_by-cons (λ x. cond (p x) (f x) 0) x xs ∙ ap (λ
 
 -- the weight inside a whole family is at most the length of a route of it
 weight_of : (f : Family) (r : Route) → weight 0 (family_block f) r ≤ cond (same_family r.block.family f) r.block.len 0
-unfolding weight is_longer
-weight_of f r = cond_less (is_inside r.block (family_block f) && nat_lt (0 + 0) r.block.len) (same_family r.block.family f) (r.block.len - (0 + 0)) r.block.len
-    (λ e. (and_parts _ _ (and_parts _ _ (and_parts (is_inside r.block (family_block f)) (nat_lt (0 + 0) r.block.len) e).0).0).0) (omega arith)
+unfolding weight
+weight_of f r = cond_both (is_inside r.block (family_block f)) (r.block.len - (0 + 0)) 0 (λ n. n ≤ cond (same_family r.block.family f) r.block.len 0)
+    (λ e. let s : same_family r.block.family f ≡ true = (and_parts _ _ (and_parts _ _ e).0).0 in rw s (omega arith)) (λ e. omega arith)
 
 -- the pieces of a flat list in one family are those that a search of the family finds
 pub flat_bound : (M : List Route) → IsTable M → (ps : List Piece) → IsFlat (hop_at M) ps → (f : Family) → length (pieces_in f ps) ≤ 1 + lengths_in f M
