@@ -12,7 +12,7 @@ use Rattle.route_laws.specs.Tables.{Governed, IsMatch, Route, IsTable, hop_at, m
 use Rattle.route_laws.proofs.Alterations.{added_match, left_match, added_is_table, left_back, left_is_table, left_other}
 use Rattle.route_laws.proofs.Insides.{same_match, sound, Sooner, rising, same_in}
 use Rattle.route_laws.proofs.Matches.{block_in, match_from, match_meets, test_from_inside}
-use Rattle.route_laws.proofs.Ordered.{put_back, put_itself, put_other, before_inner, shorter_first, same_or_not, Rising-map, gone_back, gone_other, not_from}
+use Rattle.route_laws.proofs.Ordered.{before_apart, put_back, put_itself, put_other, before_inner, shorter_first, same_or_not, Rising-map, gone_back, gone_other, not_from}
 use Rattle.route_choices.specs.Hops.{IsHop, number_of}
 use Rattle.std.specs.List.{list_any}
 use Rattle.std.proofs.lemmas.Bool.Decides.{nat_tests}
@@ -37,25 +37,21 @@ module _ (N : List Route) (new : IsTable N) where
   with_one T table r i = let s = sound N new r i in added_is_table T table r s.0 s.1
 
   module _ (T : List Route) (table : IsTable T) (x : Address) (a : IsAddress x) where
-    abbrev its_match : List Route → Option Route
-    its_match M = match_of M (host x)
-
-    -- the match stays, or is that in N
+    -- the hop stays, or is that in N
     abbrev Turns : List Route → Type 0
-    Turns M = (its_match M ≡ its_match T) ⊎ (its_match M ≡ its_match N)
+    Turns M = (hop_at M x ≡ hop_at T x) ⊎ (hop_at M x ≡ hop_at N x)
 
     -- a route that is installed after those of N that come behind it
     pub install_turns : (r : Route) → In r N → ((s : Route) → In s N → IsBefore r.block s.block → In s T) → Turns (with_route T r)
-    install_turns r i behind = ⊎_elim (λ e. inl e) (λ t. inr (t.1 ∙ sym (is_new (match_meets (with_route T r) one (host x) (host_is_block x a) r t.1)))) (added_match T table r k.0 k.1 x a)
+    install_turns r i behind = ⊎_elim (λ e. inl (ap match_number e))
+        (λ t. inr (ap match_number (t.1 ∙ sym (is_new (match_meets (with_route T r) (with_one T table r i) (host x) (host_is_block x a) r t.1)))))
+        (added_match T table r k.0 k.1 x a)
       where
         k : IsBlock r.block × IsHop r.hop
         k = sound N new r i
 
-        one : IsTable (with_route T r)
-        one = with_one T table r i
-
         -- a longer one in N comes behind, so it is in T
-        is_new : IsMatch (with_route T r) (host x) r → its_match N ≡ Some r
+        is_new : IsMatch (with_route T r) (host x) r → match_of N (host x) ≡ Some r
         is_new m = match_from N new (host x) (host_is_block x a) r (record {
           member = Contains-from_In N r i;
           holds = m.holds;
@@ -68,8 +64,8 @@ module _ (N : List Route) (new : IsTable N) where
 
     -- a block that is removed when all of N is there, and before it nothing else
     pub remove_turns : (b : Block) → IsBlock b → ((s : Route) → In s N → s.block ≡ b → ⊥) → ((s : Route) → In s N → In s T) → ((s : Route) → In s T → IsBefore s.block b → In s N) → Turns (without_block T b)
-    remove_turns b ok apart holds ahead = ⊎_elim (λ e. inl e)
-        (λ g. inr (same_match x a (without_block T b) N (left_is_table T table b) new (λ s i h. in_new g s i h) (λ s i h. left_other T table b s (holds s i) (apart s i))))
+    remove_turns b ok apart holds ahead = ⊎_elim (λ e. inl (ap match_number e))
+        (λ g. inr (ap match_number (same_match x a (without_block T b) N (left_is_table T table b) new (in_new g) (λ s i h. left_other T table b s (holds s i) (apart s i)))))
         (left_match T table b ok x a)
       where
         -- the routes that are left with the address contain the block, so they are routes of N
@@ -80,16 +76,6 @@ module _ (N : List Route) (new : IsTable N) where
             let apart_from : IsInside s.block b → IsInside b s.block → ⊥ = λ p q. u.1 (same_sets s.block b k ok p q) in
             let lies = ⊎_elim (λ p. p) (λ p. absurd (g.free s (Contains-from_In T s u.0) (p, apart_from p) h)) (nested b s.block x ok k g.inside h) in
             ahead s u.0 (before_inner s.block b k ok (lies, λ p. apart_from p lies))
-
-module _ (N : List Route) where
-  -- operations that lead to N: each leaves the match of an address, or makes it that in N
-  abbrev pub Leads : List Route → List Operation → Type 0
-  Leads T [] = T ≡ N
-  Leads T (o ∷ os) = ((x : Address) → IsAddress x → (match_of (after T o) (host x) ≡ match_of T (host x)) ⊎ (match_of (after T o) (host x) ≡ match_of N (host x))) × Leads (after T o) os
-
-  pub reaches : (T : List Route) (os : List Operation) → Leads T os → after_all T os ≡ N
-  reaches T [] l = l
-  reaches T (o ∷ os) l = reaches (after T o) os l.1
 
 module _ (x : Address) where
   -- each operation leaves the hop or makes it h, which it is at the end: so it is h from where it first is
@@ -116,9 +102,9 @@ module _ (x : Address) where
       (λ e. inr (settled_at (after M o) os h e t.1 j))
       t.0
 
-  pub leads_once : IsAddress x → (N T : List Route) (os : List Operation) → Leads N T os → Once T os (hop_at N x)
-  leads_once a N T [] l = ap (λ M. hop_at M x) l
-  leads_once a N T (o ∷ os) l = (⊎_elim (λ e. inl (ap match_number e)) (λ e. inr (ap match_number e)) (l.0 x a), leads_once a N (after T o) os l.1)
+-- operations that lead to N: each leaves the hop of an address, or makes it that in N
+abbrev Leads : List Route → List Route → List Operation → Type 0
+Leads N T os = (after_all T os ≡ N) × ((x : Address) → IsAddress x → Once x T os (hop_at N x))
 
 pub hitless_from : (M : List Route) (os : List Operation) → ((x : Address) → IsAddress x → (h : Option ℕ) × Once x M os h) → IsHitless M os
 hitless_from M os f = record {
@@ -192,18 +178,18 @@ module _ (N : List Route) (new : IsTable N) where
   -- all of N is there, and the rest is to be removed, ascending
   pub second : (K : List Route) (T : List Route) → IsTable T → ((s : Route) → In s N → In s T) → ((s : Route) → In s T → In s N ⊎ In s K) → Rising Sooner K
       → ((s : Route) → In s K → IsBlock s.block × ((u : Route) → In u N → u.block ≡ s.block → ⊥)) → Leads N T (removes K)
-  second [] T table holds only up apart = same_rising Sooner (λ s u. strict s.block u.block) T N (rising T table) (rising N new)
-      (λ s i. ⊎_elim (λ j. j) (λ j. absurd j) (only s i)) holds
+  second [] T table holds only up apart =
+      let e = same_rising Sooner (λ s u. strict s.block u.block) T N (rising T table) (rising N new) (λ s i. ⊎_elim (λ j. j) (λ j. absurd j) (only s i)) holds in
+      (e, λ x a. ap (λ M. hop_at M x) e)
   second (k ∷ K) T table holds only up apart =
-      let here = apart k (inl refl) in (
-        (λ x a. remove_turns N new T table x a k.block here.0 here.1 holds (λ s i l. ⊎_elim (λ j. j) (λ j. absurd (⊎_elim
-            (λ e. let m = subst (λ (u : Route). IsBefore u.block k.block) e l in strict k.block k.block m m)
-            (λ j. strict s.block k.block l (up.0 s j)) j)) (only s i))),
-        second K (without_block T k.block) (left_is_table T table k.block)
-            (λ s i. left_other T table k.block s (holds s i) (here.1 s i))
-            (λ s i. let t = left_back T table k.block s i in ⊎_elim (λ j. inl j) (λ j. ⊎_elim (λ e. absurd (t.1 (ap Route.block e))) (λ j. inr j) j) (only s t.0))
-            up.1 (λ s i. apart s (inr i)),
-      )
+      let here = apart k (inl refl) in
+      let rest = second K (without_block T k.block) (left_is_table T table k.block)
+          (λ s i. left_other T table k.block s (holds s i) (here.1 s i))
+          (λ s i. let t = left_back T table k.block s i in ⊎_elim (λ j. inl j) (λ j. ⊎_elim (λ e. absurd (t.1 (ap Route.block e))) (λ j. inr j) j) (only s t.0))
+          up.1 (λ s i. apart s (inr i)) in
+      (rest.0, λ x a. (remove_turns N new T table x a k.block here.0 here.1 holds (λ s i l. ⊎_elim (λ j. j) (λ j. absurd (⊎_elim
+          (λ e. before_apart s.block k.block l (ap Route.block e))
+          (λ j. strict s.block k.block l (up.0 s j)) j)) (only s i)), rest.1 x a))
 
   module _ (M : List Route) (old : IsTable M) where
     -- each route of N is there or yet to come, descending, and what is there is of M or of N
@@ -220,15 +206,14 @@ module _ (N : List Route) (new : IsTable N) where
         there s i = ⊎_elim (λ j. j) (λ j. absurd j) (holds s i)
     first (r ∷ L) T table holds only down come =
         let i = come r (inl refl) in
-        let ok = block_in N new r i in (
-          (λ x a. install_turns N new T table x a r i (λ s j l. ⊎_elim (λ k. k) (λ k. absurd (⊎_elim
-              (λ e. let m = subst (λ (u : Route). IsBefore r.block u.block) e l in strict r.block r.block m m)
-              (λ k. strict r.block s.block l (down.0 s k)) k)) (holds s j))),
-          first L (with_route T r) (with_one N new T table r i)
-              (λ s j. ⊎_elim (λ k. inl (kept s j i ok k)) (λ k. ⊎_elim (λ e. inl (subst (λ (u : Route). In u (with_route T r)) (sym e) (put_itself Route.block T r))) (λ k. inr k) k) (holds s j))
-              (λ s j. ⊎_elim (λ e. inr (subst (λ (u : Route). In u N) (sym e) i)) (λ t. only s t.0) (put_back Route.block T r s j))
-              down.1 (λ s j. come s (inr j)),
-        )
+        let ok = block_in N new r i in
+        let rest = first L (with_route T r) (with_one N new T table r i)
+            (λ s j. ⊎_elim (λ k. inl (kept s j i ok k)) (λ k. ⊎_elim (λ e. inl (subst (λ (u : Route). In u (with_route T r)) (sym e) (put_itself Route.block T r))) (λ k. inr k) k) (holds s j))
+            (λ s j. ⊎_elim (λ e. inr (subst (λ (u : Route). In u N) (sym e) i)) (λ t. only s t.0) (put_back Route.block T r s j))
+            down.1 (λ s j. come s (inr j)) in
+        (rest.0, λ x a. (install_turns N new T table x a r i (λ s j l. ⊎_elim (λ k. k) (λ k. absurd (⊎_elim
+            (λ e. before_apart r.block s.block l (ap Route.block (sym e)))
+            (λ k. strict r.block s.block l (down.0 s k)) k)) (holds s j)), rest.1 x a))
       where
         kept : (s : Route) → In s N → In r N → IsBlock r.block → In s T → In s (with_route T r)
         kept s j i ok k = ⊎_elim
@@ -244,10 +229,10 @@ module _ (N : List Route) (new : IsTable N) where
         (λ s i. (missing_back M N s (reverse_In (missing M N) s i)).0)
 
 pub between_reaches : (M N : List Route) → IsTable M → IsTable N → after_all M (between M N) ≡ N
-between_reaches M N old new = reaches N M (between M N) (leads N new M old)
+between_reaches M N old new = (leads N new M old).0
 
 pub between_hitless : (M N : List Route) → IsTable M → IsTable N → IsHitless M (between M N)
-between_hitless M N old new = hitless_from M (between M N) (λ x a. (hop_at N x, leads_once x a N M (between M N) (leads N new M old)))
+between_hitless M N old new = hitless_from M (between M N) (λ x a. (hop_at N x, (leads N new M old).1 x a))
 
 pub after-append : (M : List Route) (os ps : List Operation) → after_all M (os ++ ps) ≡ after_all (after_all M os) ps
 after-append M [] ps = refl
