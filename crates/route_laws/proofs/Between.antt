@@ -184,12 +184,17 @@ module _ (N : List Route) (new : IsTable N) where
   second (k ∷ K) T table holds only up apart =
       let here = apart k (inl refl) in
       let rest = second K (without_block T k.block) (left_is_table T table k.block)
-          (λ s i. left_other T table k.block s (holds s i) (here.1 s i))
-          (λ s i. let t = left_back T table k.block s i in ⊎_elim (λ j. inl j) (λ j. ⊎_elim (λ e. absurd (t.1 (ap Route.block e))) (λ j. inr j) j) (only s t.0))
-          up.1 (λ s i. apart s (inr i)) in
-      (rest.0, λ x a. (remove_turns N new T table x a k.block here.0 here.1 holds (λ s i l. ⊎_elim (λ j. j) (λ j. absurd (⊎_elim
-          (λ e. before_apart s.block k.block l (ap Route.block e))
-          (λ j. strict s.block k.block l (up.0 s j)) j)) (only s i)), rest.1 x a))
+      (λ s i. left_other T table k.block s (holds s i) (here.1 s i))
+      (λ s i. let t = left_back T table k.block s i in ⊎_elim (λ j. inl j) (λ j. ⊎_elim (λ e. absurd (t.1 (ap Route.block e))) (λ j. inr j) j) (only s t.0))
+      up.1 (λ s i. apart s (inr i)) in (
+        rest.0,
+        λ x a. (
+          remove_turns N new T table x a k.block here.0 here.1 holds (λ s i l. ⊎_elim (λ j. j) (λ j. absurd (⊎_elim
+              (λ e. before_apart s.block k.block l (ap Route.block e))
+              (λ j. strict s.block k.block l (up.0 s j)) j)) (only s i)),
+          rest.1 x a,
+        ),
+      )
 
   module _ (M : List Route) (old : IsTable M) where
     -- each route of N is there or yet to come, descending, and what is there is of M or of N
@@ -208,12 +213,17 @@ module _ (N : List Route) (new : IsTable N) where
         let i = come r (inl refl) in
         let ok = block_in N new r i in
         let rest = first L (with_route T r) (with_one N new T table r i)
-            (λ s j. ⊎_elim (λ k. inl (kept s j i ok k)) (λ k. ⊎_elim (λ e. inl (subst (λ (u : Route). In u (with_route T r)) (sym e) (put_itself Route.block T r))) (λ k. inr k) k) (holds s j))
-            (λ s j. ⊎_elim (λ e. inr (subst (λ (u : Route). In u N) (sym e) i)) (λ t. only s t.0) (put_back Route.block T r s j))
-            down.1 (λ s j. come s (inr j)) in
-        (rest.0, λ x a. (install_turns N new T table x a r i (λ s j l. ⊎_elim (λ k. k) (λ k. absurd (⊎_elim
-            (λ e. before_apart r.block s.block l (ap Route.block (sym e)))
-            (λ k. strict r.block s.block l (down.0 s k)) k)) (holds s j)), rest.1 x a))
+        (λ s j. ⊎_elim (λ k. inl (kept s j i ok k)) (λ k. ⊎_elim (λ e. inl (subst (λ (u : Route). In u (with_route T r)) (sym e) (put_itself Route.block T r))) (λ k. inr k) k) (holds s j))
+        (λ s j. ⊎_elim (λ e. inr (subst (λ (u : Route). In u N) (sym e) i)) (λ t. only s t.0) (put_back Route.block T r s j))
+        down.1 (λ s j. come s (inr j)) in (
+          rest.0,
+          λ x a. (
+            install_turns N new T table x a r i (λ s j l. ⊎_elim (λ k. k) (λ k. absurd (⊎_elim
+                (λ e. before_apart r.block s.block l (ap Route.block (sym e)))
+                (λ k. strict r.block s.block l (down.0 s k)) k)) (holds s j)),
+            rest.1 x a,
+          ),
+        )
       where
         kept : (s : Route) → In s N → In r N → IsBlock r.block → In s T → In s (with_route T r)
         kept s j i ok k = ⊎_elim

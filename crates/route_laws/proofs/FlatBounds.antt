@@ -1,1 +1,1 @@
-pub use Rattle.route_laws.proofs.Bounds.{flat_bound}
+pub use Rattle.route_laws.proofs.Flats.{flat_bound}

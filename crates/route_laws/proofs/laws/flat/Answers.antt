@@ -1,5 +1,4 @@
-use Rattle.route_laws.proofs.Flats.{flat_is_shortest, shortest_is_flat, flat_is_admissible, same_flat, search_is_flat, own_is_maximal}
-use Rattle.route_laws.proofs.Bounds.{flat_bound}
+use Rattle.route_laws.proofs.Flats.{flat_is_shortest, shortest_is_flat, flat_is_admissible, same_flat, search_is_flat, own_is_maximal, flat_bound}
 use Rattle.route_laws.proofs.FlatTables.{flat_is_table, flat_rebuilds, flat_readded, readded_are_new}
 use Rattle.route_laws.proofs.laws.flat.Goals as goal
 
