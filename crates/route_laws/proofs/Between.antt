@@ -13,7 +13,7 @@ use Rattle.route_laws.proofs.Alterations.{added_match, left_match, added_is_tabl
 use Rattle.route_laws.proofs.Insides.{same_match, sound, Sooner, rising, same_in}
 use Rattle.route_laws.proofs.Matches.{block_in, match_from, match_meets, test_from_inside}
 use Rattle.route_laws.proofs.Ordered.{before_apart, put_back, put_itself, put_other, before_inner, shorter_first, same_or_not, Rising-map, gone_back, gone_other, not_from}
-use Rattle.route_choices.specs.Hops.{IsHop, number_of}
+use Rattle.route_choices.specs.Hops.{IsHop}
 use Rattle.std.specs.List.{list_any}
 use Rattle.std.proofs.lemmas.Bool.Decides.{nat_tests}
 use Rattle.std.proofs.lemmas.List.{reverse-append, reverse-reverse, length-map, length-reverse}
@@ -24,8 +24,6 @@ use Rattle.route_choices.specs.Choices.{same_hop}
 use Rattle.route_choices.proofs.Kept.{Rising-kept, In-from_filter, In-filter, Rising-joined, all_kept, In-map}
 use Rattle.route_choices.proofs.Preferences.{hop_from_test, same_itself}
 use Rattle.ipnet_blocks.proofs.Parents.{decide_inside}
-use Rattle.route_laws.specs.Changes.{same_number}
-use Rattle.route_laws.specs.Overwritten.{overwritten, without_inside}
 use Rattle.route_laws.proofs.Overwritten.{outside_back, outside_other, over_back, over_other, routes_placed, Changes, painted_all_is_table, painted_is_table, changes_from}
 use Rattle.route_laws.specs.Painted.{most_operations, painted, painted_all, strictly_inside}
 use Rattle.route_laws.specs.LeastTables.{HasHops}
@@ -339,12 +337,12 @@ one_each M N new o p i j e = go (is_one M N o i) (is_one M N p j)
 
 module _ (M : List Route) (r : Route) (m : IsTable M) (ok : IsBlock r.block) where
   painted_back : (s : Route) → In s (painted M r) → (s ≡ r) ⊎ In s M
-  painted_back s = cond_both (same_number (match_number (match_of (without_inside M r.block) r.block)) (number_of r.hop)) (without_inside M r.block) (overwritten M r) (λ N. In s N → (s ≡ r) ⊎ In s M)
+  painted_back s = cond_both _ _ _ (λ N. In s N → (s ≡ r) ⊎ In s M)
       (λ e j. inr (outside_back Route.block M (routes_placed M m) r.block ok s j).0)
       (λ e j. ⊎_elim (λ q. inl q) (λ t. inr t.0) (over_back Route.block M (routes_placed M m) r ok s j))
 
   painted_other : (s : Route) → In s M → (IsInside s.block r.block → ⊥) → In s (painted M r)
-  painted_other s i f = cond_both (same_number (match_number (match_of (without_inside M r.block) r.block)) (number_of r.hop)) (without_inside M r.block) (overwritten M r) (In s)
+  painted_other s i f = cond_both _ _ _ (In s)
       (λ e. outside_other Route.block M (routes_placed M m) r.block ok s i f) (λ e. over_other Route.block M (routes_placed M m) r ok s i f)
 
   strictly : (s : Route) → In s M → IsInside s.block r.block → (s.block ≡ r.block → ⊥) → In s (strictly_inside M r.block)

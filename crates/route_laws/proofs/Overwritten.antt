@@ -26,7 +26,6 @@ use Rattle.route_laws.proofs.Ordered.{Earlier, put, put_back, put_itself, put_ot
 use Rattle.std.proofs.lemmas.List.Elements.{All-map}
 use Rattle.ipnet_blocks.specs.Maximal.{IsMaximal}
 use Rattle.route_choices.specs.declared.hop.Hop.{Hop}
-use Rattle.route_laws.specs.Changes.{same_number}
 use Rattle.route_laws.specs.Painted.{AreChanges, changes_to, hop_over, painted, painted_all}
 use Rattle.ipnet_blocks.proofs.Parents.{inside_parent, larger_is_shorter, parent_in_larger, parent_is_block}
 
@@ -197,10 +196,10 @@ module _ (M : List Route) (m : IsTable M) (r : Route) (ok : IsBlock r.block) whe
   }))
 
   pub painted_is_table : IsHop r.hop → IsTable (painted M r)
-  painted_is_table hop = cond_both (same_number (match_number (match_of (without_inside M r.block) r.block)) (number_of r.hop)) (without_inside M r.block) (overwritten M r) IsTable (λ e. outside_is_table M m r ok) (λ e. over_is_table M m r ok hop)
+  painted_is_table hop = cond_both _ _ _ IsTable (λ e. outside_is_table M m r ok) (λ e. over_is_table M m r ok hop)
 
   pub painted_hops : IsHop r.hop → (x : Address) → IsAddress x → hop_at (painted M r) x ≡ cond (has_address r.block x) (number_of r.hop) (hop_at M x)
-  painted_hops hop x a = cond_both (same_number (match_number (match_of (without_inside M r.block) r.block)) (number_of r.hop)) (without_inside M r.block) (overwritten M r)
+  painted_hops hop x a = cond_both _ _ _
       (λ N. hop_at N x ≡ cond (has_address r.block x) (number_of r.hop) (hop_at M x))
       (λ e. cond_both (has_address r.block x) (number_of r.hop) (hop_at M x) (λ o. hop_at (without_inside M r.block) x ≡ o)
       (λ f. handed_down x a (has_from_test r.block x f) ∙ same_from_test (match_number (match_of (without_inside M r.block) r.block)) (number_of r.hop) e)
