@@ -20,7 +20,6 @@ use Rattle.std.proofs.lemmas.List.{reverse-append, reverse-reverse, length-map, 
 use Rattle.std.proofs.lemmas.List.Sorted.{Contains-permutation, IsPermutation-reverse}
 use Rattle.ipnet_addr.proofs.Basics.{In-from_list_any, list_any-from_In}
 use Rattle.ipnet_blocks.proofs.BlockTests.{same_from_test, test_from_same}
-use Rattle.route_choices.specs.Choices.{same_hop}
 use Rattle.route_choices.proofs.Kept.{Rising-kept, In-from_filter, In-filter, Rising-joined, all_kept, In-map}
 use Rattle.route_choices.proofs.Preferences.{hop_from_test, same_itself}
 use Rattle.ipnet_blocks.proofs.Parents.{decide_inside}
@@ -132,8 +131,8 @@ falls (x ∷ xs) h = subst (λ (ys : List Route). Rising Later ys) (sym (reverse
 
 pub route_from_test : (r s : Route) → same_route r s ≡ true → r ≡ s
 route_from_test r s e =
-    let p = and_parts (same_block r.block s.block) (same_hop r.hop s.hop && (r.pref == s.pref)) e in
-    let q = and_parts (same_hop r.hop s.hop) (r.pref == s.pref) p.1 in
+    let p = and_parts _ _ e in
+    let q = and_parts _ _ p.1 in
     let b = same_from_test r.block s.block p.0 in
     let h = hop_from_test r.hop s.hop q.0 in
     let n : r.pref ≡ s.pref = grind (arith, nat_tests, q.1) in

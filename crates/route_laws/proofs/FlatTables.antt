@@ -6,7 +6,6 @@ use Rattle.ipnet_addr.proofs.Members.{In}
 use Rattle.ipnet_blocks.specs.Blocks.{host, Block, IsBefore, is_inside, HasAddress, first_of}
 use Rattle.ipnet_blocks.proofs.Maximals.{host_is_block, in_host, has_host, member_is_address}
 use Rattle.route_choices.specs.Hops.{IsHop, number_of}
-use Rattle.route_choices.specs.declared.hop.Hop.{Hop}
 use Rattle.route_choices.specs.declared.hop.Hop.TheVariants.{Number, Drop}
 use Rattle.route_laws.specs.Fewest.{HopsOfTable, AreHops}
 use Rattle.route_laws.specs.Tables.{IsMatch, Route, match_of, match_number, IsTable, covering, hop_at, longer, longest, with_route}
@@ -31,16 +30,13 @@ use Rattle.route_laws.proofs.Insides as routes
 abbrev Small : Option ℕ → Type 0
 Small o = IfSome o (λ k. k < 2 ^ 32)
 
-small_hop : (k : Hop) → IsHop k → Small (number_of k)
-small_hop (Number k) h = h
-small_hop Drop h = tt
-
 pub hops_of_table : HopsOfTable
 hops_of_table M table x a = ⊎_elim
     (λ e. rw e tt)
     (λ t.
     let member = (match_meets M table (host x) (host_is_block x a) t.0 t.1).member in
-    rw t.1 (small_hop t.0.hop (In-from_All (λ (s : Route). IsHop s.hop) M table.hops t.0 (In-from_Contains M t.0 member))))
+    rw t.1 ((elim t.0.hop as (λ k. IsHop k → Small (number_of k)) [ Number k ↦ λ h. h | Drop ↦ λ h. tt ])
+    (In-from_All (λ (s : Route). IsHop s.hop) M table.hops t.0 (In-from_Contains M t.0 member))))
     (none_or_some (match_of M (host x)))
 
 -- ---- networks added one after another, ascending; and hops, which do not depend on preferences

@@ -11,8 +11,6 @@ use Rattle.ipnet_blocks.proofs.BlockTests.{has_from_test, test_from_has}
 use Rattle.ipnet_blocks.proofs.Maximals.{maximal_is_unique, member_is_address}
 use Rattle.ipnet_blocks.proofs.Unions.{maximal_same, maximal_none}
 use Rattle.route_choices.proofs.Kept.{In-map, map_In}
-use Rattle.route_choices.specs.Choices.{default_preference}
-use Rattle.route_choices.specs.declared.hop.Hop.TheVariants.{Number}
 use Rattle.route_laws.specs.Changes.{changed}
 use Rattle.route_laws.specs.Flats.{Piece, IsFlat, flat_of}
 use Rattle.route_laws.specs.Laws.{one_route}
@@ -65,7 +63,7 @@ module _ (b : Block) (ok : IsBlock b) where
   module _ (k : ℕ) (fits : k < 2 ^ 32) where
     -- one route in the place of none
     hops : (x : Address) → IsAddress x → hop_at (one_route b k) x ≡ cond (has_address b x) (Some k) None
-    hops = over_hops [] empty_is_table (record { block = b; hop = Number k; pref = default_preference }) ok fits
+    hops = over_hops [] empty_is_table _ ok fits
 
     inside : (x : Address) → IsAddress x → HasAddress b x → hop_at (one_route b k) x ≡ Some k
     inside x a h = hops x a ∙ cond-true (has_address b x) (Some k) None (test_from_has b x h)
