@@ -7,10 +7,9 @@ use Rattle.route_laws.specs.Tables.{Route, IsTable, with_route, without_block, c
 use Rattle.route_laws.proofs.Insides.{Sound, rising, sound, table_kept, table_of, same_parts, host_inside}
 pub use Rattle.route_laws.proofs.Insides.{Sooner}
 use Rattle.route_laws.proofs.Ordered.{none_or_some, put_back, put_itself, put_other, put_rises, gone_back, gone_other, not_cases, not_from, same_or_not, put_gone}
-use Rattle.std.proofs.lemmas.Bool.{cond_both, cases_Bool, cond-true, cond-false}
+use Rattle.std.proofs.lemmas.Bool.{eq-eqb, eqb-true, cond_both, cases_Bool, cond-true, cond-false}
 use Rattle.ipnet_addr.proofs.Ascending.{In-from_Contains, Contains-from_In}
 use Rattle.route_laws.proofs.Matches.{block_in, no_match, match_meets, match_from, inside_from_test, best_of, covers_in, in_covers, longer_cases, none_from, governed_match, match_of_own}
-use Rattle.std.proofs.lemmas.Bool.Decides.{nat_tests}
 use Rattle.ipnet_blocks.specs.Maximal.{IsMaximal, maximal_of}
 use Rattle.ipnet_blocks.proofs.Search.{search_is_maximal}
 use Rattle.route_laws.specs.Changes.{changed, same_number}
@@ -101,11 +100,11 @@ pub same_from_test : (o p : Option ℕ) → same_number o p ≡ true → o ≡ p
 same_from_test None None e = refl
 same_from_test None (Some j) e = absurd (cc)
 same_from_test (Some k) None e = absurd (cc)
-same_from_test (Some k) (Some j) e = let q : k ≡ j = grind (arith, nat_tests, e) in cc
+same_from_test (Some k) (Some j) e = ap (λ n. Some n) (eqb-true k j e)
 
 pub same_itself : (o : Option ℕ) → same_number o o ≡ true
 same_itself None = refl
-same_itself (Some k) = grind (arith, nat_tests)
+same_itself (Some k) = eq-eqb k k refl
 
 pub changed_is_maximal : (M N : List Route) → IsMaximal (Changed M N) (maximal_of (changed M N))
 changed_is_maximal M N = maximal_same (λ x. changed M N x ≡ true) (Changed M N)

@@ -1,6 +1,6 @@
 -- The operations between two tables lead from the one to the other.
-use Rattle.std.proofs.Common.{◌≡◌, ℕ, zero, suc, ◌≤◌, ◌⊎◌, inl, inr, ⊎_elim, List, [], ◌∷◌, take, Option, Some, refl, sym, ap, ◌∙◌, arith, ◌&&◌, ◌==◌, true, not, ◌++◌, subst, reverse, length, ◌+◌, length-append, append-nil}
-use Rattle.std.proofs.lemmas.Bool.{cases_lt, and_parts, cases_Bool, and_from, cond_both}
+use Rattle.std.proofs.Common.{◌≡◌, ℕ, zero, suc, ◌≤◌, ◌⊎◌, inl, inr, ⊎_elim, List, [], ◌∷◌, take, Option, Some, refl, sym, ap, ◌∙◌, arith, ◌&&◌, true, not, ◌++◌, subst, reverse, length, ◌+◌, length-append, append-nil}
+use Rattle.std.proofs.lemmas.Bool.{eq-eqb, eqb-true, cases_lt, and_parts, cases_Bool, and_from, cond_both}
 use Rattle.ipnet_addr.specs.Addresses.{Address, IsAddress}
 use Rattle.ipnet_addr.proofs.Members.{In, In-cases, Distinct, no_more}
 use Rattle.ipnet_addr.proofs.Ascending.{In-from_Contains, Contains-from_In, Rising, same_rising, Distinct-from_Rising}
@@ -15,7 +15,6 @@ use Rattle.route_laws.proofs.Matches.{block_in, match_from, match_meets, test_fr
 use Rattle.route_laws.proofs.Ordered.{before_apart, put_back, put_itself, put_other, before_inner, shorter_first, same_or_not, Rising-map, gone_back, gone_other, not_from}
 use Rattle.route_choices.specs.Hops.{IsHop}
 use Rattle.std.specs.List.{list_any}
-use Rattle.std.proofs.lemmas.Bool.Decides.{nat_tests}
 use Rattle.std.proofs.lemmas.List.{reverse-append, reverse-reverse, length-map, length-reverse}
 use Rattle.std.proofs.lemmas.List.Sorted.{Contains-permutation, IsPermutation-reverse}
 use Rattle.ipnet_addr.proofs.Basics.{In-from_list_any, list_any-from_In}
@@ -25,7 +24,6 @@ use Rattle.route_choices.proofs.Preferences.{hop_from_test, same_itself}
 use Rattle.ipnet_blocks.proofs.Parents.{decide_inside}
 use Rattle.route_laws.proofs.Overwritten.{outside_back, outside_other, over_back, over_other, routes_placed, Changes, painted_all_is_table, painted_is_table, changes_from}
 use Rattle.route_laws.specs.Painted.{most_operations, painted, painted_all, strictly_inside}
-use Rattle.route_laws.specs.LeastTables.{HasHops}
 use Rattle.route_laws.specs.Nearest.{FewestIsNearest, LeastIsNearest, NearestIsBounded, NearestIsFewest, NearestIsHitless}
 
 module _ (N : List Route) (new : IsTable N) where
@@ -135,15 +133,14 @@ route_from_test r s e =
     let q = and_parts _ _ p.1 in
     let b = same_from_test r.block s.block p.0 in
     let h = hop_from_test r.hop s.hop q.0 in
-    let n : r.pref ≡ s.pref = grind (arith, nat_tests, q.1) in
+    let n = eqb-true r.pref s.pref q.1 in
     λ i. record { block = b i; hop = h i; pref = n i }
 
 pub route_itself : (r : Route) → same_route r r ≡ true
 route_itself r =
     let b = test_from_same r.block r.block refl in
     let h = same_itself r.hop in
-    let p : (r.pref == r.pref) ≡ true = grind (arith, nat_tests) in
-    rw b (rw h p)
+    rw b (rw h (eq-eqb r.pref r.pref refl))
 
 -- a route of N is held by M, or missing
 pub held_or_missing : (M N : List Route) (r : Route) → In r N → In r M ⊎ In r (missing M N)
@@ -390,7 +387,7 @@ counted_all M (r ∷ rs) m c =
 
 pub nearest_is_fewest : NearestIsFewest
 nearest_is_fewest M h N m n = record {
-  hops = subst (HasHops h) (sym (between_reaches M N m n.hops.table)) n.hops;
+  hops = rw (between_reaches M N m n.hops.table) n.hops;
   fewest = λ L g. omega (arith, n.nearest (after_all M L) g, fewest M (after_all M L) m g.table L refl);
 }
 
@@ -400,7 +397,7 @@ nearest_is_hitless M h N m n = between_hitless M N m n.hops.table
 pub fewest_is_nearest : FewestIsNearest
 fewest_is_nearest M h os m f = record {
   hops = f.hops;
-  nearest = λ L g. omega (arith, fewest M (after_all M os) m f.hops.table os refl, f.fewest (between M L) (subst (HasHops h) (sym (between_reaches M L m g.table)) g));
+  nearest = λ L g. omega (arith, fewest M (after_all M os) m f.hops.table os refl, f.fewest (between M L) (rw (between_reaches M L m g.table) g));
 }
 
 pub nearest_is_bounded : NearestIsBounded

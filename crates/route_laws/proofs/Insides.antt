@@ -1,9 +1,7 @@
 -- The routes of a table inside one block, and tables inside two blocks apart.
-use Rattle.std.proofs.Common.{◌≡◌, ℕ, ◌+◌, ◌<◌, ◌≤◌, inl, inr, ⊎_elim, Bool, true, cond, List, [], ◌∷◌, ◌++◌, length, filter, ◌⊎◌, MatchOption, Option, Some, None, refl, sym, ap, ◌∙◌, subst, lt-ltb, ◌-◌, ◌/◌, ◌^◌, arith, length-append, ◌≢◌, ◌↔◌, ◌&&◌, ◌==◌, nat_le, IfSome}
-use Rattle.std.proofs.lemmas.List.Elements.{All-filter}
-use Rattle.std.proofs.lemmas.List.Kept.{AllPairs-filter}
-use Rattle.std.proofs.lemmas.Bool.{cond_both, cond-false, false_from_ne_true, and_parts, cases_lt}
-use Rattle.ipnet_addr.specs.Addresses.{Address, IsAddress, Family, Ipv4, Ipv6, rank, width, same_family}
+use Rattle.std.proofs.Common.{◌≡◌, ℕ, ◌+◌, ◌<◌, ◌≤◌, inl, inr, ⊎_elim, Bool, true, cond, List, [], ◌∷◌, ◌++◌, length, filter, ◌⊎◌, MatchOption, Option, Some, None, refl, sym, ap, ◌∙◌, subst, lt-ltb, ◌-◌, ◌/◌, ◌^◌, arith, length-append, ◌≢◌, ◌↔◌, IfSome}
+use Rattle.std.proofs.lemmas.Bool.{eqb-true, cond_both, cond-false, false_from_ne_true, and_parts, cases_lt}
+use Rattle.ipnet_addr.specs.Addresses.{Address, IsAddress, Family, Ipv4, Ipv6, rank, width}
 use Rattle.ipnet_addr.proofs.Members.{In, In-cases, In-left, In-right}
 use Rattle.ipnet_addr.proofs.Ascending.{In-from_All, All-from_In, Rising, Rising-from_pairs, pairs_from_Rising, same_rising}
 use Rattle.ipnet_blocks.specs.Blocks.{Block, IsBlock, HasAddress, IsInside, IsBefore, is_inside, host, family_block, first_of, free_bits, IsLarger, left, right}
@@ -19,7 +17,6 @@ use Rattle.ipnet_addr.proofs.Families.{family_from_test}
 use Rattle.ipnet_blocks.proofs.Search.{whole_is_block, inside_whole, left_is_block, right_is_block, left_inside, right_inside, in_a_half, address_in_a_half, leaf_address, halves_in_order}
 use Rattle.std.proofs.Math.Nat.{div-eq_of_lt}
 use Rattle.route_laws.specs.LeastTables.{HasHops, IsLeast}
-use Rattle.std.proofs.lemmas.Bool.Decides.{nat_tests}
 use Rattle.ipnet_blocks.proofs.Parents.{larger_is_shorter}
 use Rattle.ipnet_blocks.specs.Halves.{IsLesser}
 
@@ -51,7 +48,7 @@ empty_is_table = table_of [] (λ r i. absurd i) tt
 
 -- what passes a test, of a table
 pub table_kept : (p : Route → Bool) (M : List Route) → IsTable M → IsTable (filter p M)
-table_kept p M t = record { blocks = All-filter p (λ r. IsBlock r.block) M t.blocks; hops = All-filter p (λ r. IsHop r.hop) M t.hops; ascending = AllPairs-filter Sooner p M t.ascending }
+table_kept p M t = table_of (filter p M) (λ r i. sound M t r (In-from_filter p M r i).0) (Rising-kept Sooner p M (rising M t))
 
 -- of two tables whose routes that pass are the same
 pub same_parts : (p : Route → Bool) (M N : List Route) → IsTable M → IsTable N → ((r : Route) → In r M → p r ≡ true → In r N) → ((r : Route) → In r N → p r ≡ true → In r M) → filter p M ≡ filter p N
@@ -304,7 +301,7 @@ free_of_large h small b ok j large N g = record {
 }
 
 quotient_tested : (a b : Block) → is_inside a b ≡ true → a.quotient / 2 ^ (a.len - b.len) ≡ b.quotient
-quotient_tested a b e = grind (arith, nat_tests, (and_parts (same_family a.family b.family && nat_le b.len a.len) (a.quotient / 2 ^ (a.len - b.len) == b.quotient) e).1)
+quotient_tested a b e = eqb-true _ _ (and_parts _ _ e).1
 
 module _ (h : Address → Option ℕ) (small : AreHops h) (b : Block) (ok : IsBlock b) (room : b.len < width b.family) (f g : Option ℕ → ℕ)
     (below : (k : Option ℕ) → IsFewest h (left b) k (f k)) (above : (k : Option ℕ) → IsFewest h (right b) k (g k)) where
@@ -318,7 +315,7 @@ module _ (h : Address → Option ℕ) (small : AreHops h) (b : Block) (ok : IsBl
   okr = right_is_block b ok free
 
   halves_apart : (c : Block) → is_inside c (left b) ≡ true → is_inside c (right b) ≡ true → ⊥
-  halves_apart c e d = let p = quotient_tested c (left b) e in let q = quotient_tested c (right b) d in absurd (omega (arith, p, q))
+  halves_apart c e d = absurd (omega (arith, quotient_tested c (left b) e, quotient_tested c (right b) d))
 
   halves_separate : (x : Address) → HasAddress (left b) x → HasAddress (right b) x → ⊥
   halves_separate x u v = absurd (omega (arith, u.1, v.1))
