@@ -190,7 +190,8 @@ module _ (M N : List Route) (n : Block) (m : IsTable M) (ok : IsBlock n) (c : Is
       × ((x : Address) → IsAddress x → (x.family ≡ n.family → ⊥) → hop_at N x ≡ hop_at M x)
   family_apart = (
     (λ f apart.
-        let far = λ (s : Route) (e : same_family s.block.family f ≡ true) (q : s.block ≡ n). apart (ap Block.family (sym q) ∙ family_from_test s.block.family f e) in
+        let far = λ (s : Route) (e : same_family s.block.family f ≡ true) (q : s.block ≡ n).
+        apart (ap Block.family (sym q) ∙ family_from_test s.block.family f e) in
         same_parts (λ s. same_family s.block.family f) N M c.table m (λ s i e. (c.others s (far s e)).1 i) (λ s i e. (c.others s (far s e)).0 i)),
     (λ x a apart. ⊎_elim (λ e. ap match_number e) (λ g. absurd (apart g.inside.0)) (c.stays x a)),
   )

@@ -39,7 +39,7 @@ module _ (N : List Route) (new : IsTable N) where
     -- a route that is installed after those of N that come behind it
     pub install_turns : (r : Route) → In r N → ((s : Route) → In s N → IsBefore r.block s.block → In s T) → Turns (with_route T r)
     install_turns r i behind = ⊎_elim (λ e. inl (ap match_number e))
-        (λ t. inr (ap match_number (t.1 ∙ sym (is_new (match_meets (with_route T r) (with_one T table r i) (host x) (host_is_block x a) r t.1)))))
+        (λ t. inr (ap match_number (t.1 ∙ sym (is_new (match_meets _ (with_one T table r i) _ (host_is_block x a) r t.1)))))
         (added_match T table r k.0 k.1 x a)
       where
         k : IsBlock r.block × IsHop r.hop
@@ -173,7 +173,8 @@ module _ (N : List Route) (new : IsTable N) where
   pub second : (K : List Route) (T : List Route) → IsTable T → ((s : Route) → In s N → In s T) → ((s : Route) → In s T → In s N ⊎ In s K) → Rising Sooner K
       → ((s : Route) → In s K → IsBlock s.block × ((u : Route) → In u N → u.block ≡ s.block → ⊥)) → Leads N T (removes K)
   second [] T table holds only up apart =
-      let e = same_rising Sooner (λ s u. strict s.block u.block) T N (rising T table) (rising N new) (λ s i. ⊎_elim (λ j. j) (λ j. absurd j) (only s i)) holds in
+      let e = same_rising Sooner (λ s u. strict s.block u.block) T N (rising T table) (rising N new)
+      (λ s i. ⊎_elim (λ j. j) (λ j. absurd j) (only s i)) holds in
       (e, λ x a. ap (λ M. hop_at M x) e)
   second (k ∷ K) T table holds only up apart =
       let here = apart k (inl refl) in

@@ -57,7 +57,8 @@ module _ (pref : ℕ) where
 
   longer_same : (r : Route) (o : Option Route) → Some (longer (preferring r) (option_map preferring o)) ≡ option_map preferring (Some (longer r o))
   longer_same r None = refl
-  longer_same r (Some s) = elim (nat_lt r.block.len s.block.len) as (λ b. Some (cond b (preferring s) (preferring r)) ≡ Some (preferring (cond b s r))) [ true ↦ refl | false ↦ refl ]
+  longer_same r (Some s) = elim (nat_lt r.block.len s.block.len) as (λ b. Some (cond b (preferring s) (preferring r)) ≡ Some (preferring (cond b s r)))
+      [ true ↦ refl | false ↦ refl ]
 
   longest_same : (rs : List Route) → longest (map preferring rs) ≡ option_map preferring (longest rs)
   longest_same [] = refl
@@ -67,7 +68,8 @@ module _ (pref : ℕ) where
   hops_same M x =
       ap (λ rs. match_number (longest rs)) (filter_map_swap preferring (λ r. is_inside (host x) r.block) M)
       ∙ ap match_number (longest_same (covering M (host x)))
-      ∙ (elim (longest (covering M (host x))) as (λ o. match_number (option_map preferring o) ≡ match_number o) [ None ↦ refl | Some r ↦ refl ])
+      ∙ (elim (longest (covering M (host x))) as (λ o. match_number (option_map preferring o) ≡ match_number o)
+      [ None ↦ refl | Some r ↦ refl ])
 
   pub preferring_table : (M : List Route) → IsTable M → IsTable (map preferring M)
   preferring_table M table = table_of (map preferring M)

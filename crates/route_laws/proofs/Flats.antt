@@ -113,7 +113,7 @@ module _ (h : Address → Option ℕ) where
   flat_is_admissible ps f = record {
     one_hop = All-from_In (HasOneHop h) (blocks_of ps) (λ b i. (tops ps f b i).0);
     covers = λ x a s. ⊎_elim (λ e. absurd (none_some e s))
-        (λ n. let t = piece_at ps f x a n.0 n.1 in Any-from_In (λ b. HasAddress b x) (blocks_of ps) t.0.block (In-map t.0 ps t.1) t.2)
+        (λ n. let t = piece_at ps f x a n.0 n.1 in Any-from_In (λ b. HasAddress b x) (blocks_of ps) _ (In-map t.0 ps t.1) t.2)
         (none_or_some (h x));
   }
 
@@ -232,7 +232,8 @@ module _ (h : Address → Option ℕ) where
     pub sound : (p : Piece) → In p ps → IsMaximalBlock (λ x. h x ≡ Some p.number) p.block × IsInside p.block t
     pub complete : (p : Piece) → IsMaximalBlock (λ x. h x ≡ Some p.number) p.block → IsInside p.block t → In p ps
 
-  found_here : (k : ℕ) (t : Block) → IsBlock t → free_bits t ≡ k → NoLarger t → (n : ℕ) → one_hop_in h k t ≡ Some n → Finds t (record { block = t; number = n } ∷ [])
+  found_here : (k : ℕ) (t : Block) → IsBlock t → free_bits t ≡ k → NoLarger t → (n : ℕ) → one_hop_in h k t ≡ Some n
+      → Finds t (record { block = t; number = n } ∷ [])
   found_here k t ok e none n o = record {
     rising = ((λ q i. absurd i), tt);
     sound = λ p i. ⊎_elim (λ q. rw q (maximal, λ x m. m)) (λ j. absurd j) i;
@@ -248,13 +249,17 @@ module _ (h : Address → Option ℕ) where
       w = record { block = ok; number = n; all = all_from_one k t ok e n o }
 
       maximal : IsMaximalBlock (λ x. h x ≡ Some n) t
-      maximal = record { within = record { block = ok; all = w.all }; largest = λ c v l. none c (record { block = v.block; number = n; all = v.all }) l }
+      maximal = record {
+        within = record { block = ok; all = w.all };
+        largest = λ c v l. none c (record { block = v.block; number = n; all = v.all }) l;
+      }
 
-  found_in_halves : (k : ℕ) (t : Block) → IsBlock t → free_bits t ≡ suc k → one_hop_in h (suc k) t ≡ None → (ps qs : List Piece) → Finds (left t) ps → Finds (right t) qs → Finds t (ps ++ qs)
+  found_in_halves : (k : ℕ) (t : Block) → IsBlock t → free_bits t ≡ suc k → one_hop_in h (suc k) t ≡ None → (ps qs : List Piece)
+      → Finds (left t) ps → Finds (right t) qs → Finds t (ps ++ qs)
   found_in_halves k t ok e o ps qs f g =
       let r : 0 < free_bits t = omega arith in
       record {
-        rising = Rising-joined Sooner ps qs f.rising g.rising (λ x y i j. halves_in_order t x.block y.block (f.sound x i).1 (g.sound y j).1);
+        rising = Rising-joined Sooner ps qs f.rising g.rising (λ x y i j. halves_in_order t _ _ (f.sound x i).1 (g.sound y j).1);
         sound = λ p i. ⊎_elim
             (λ j. let s = f.sound p j in (s.0, λ x m. left_inside t ok r x (s.1 x m)))
             (λ j. let s = g.sound p j in (s.0, λ x m. right_inside t ok r x (s.1 x m)))
@@ -266,7 +271,11 @@ module _ (h : Address → Option ℕ) where
   pub search : (k : ℕ) (t : Block) → IsBlock t → free_bits t ≡ k → NoLarger t → Finds t (flat_in h k t)
   unfolding flat_in one_hop_in
   search zero t ok e none = ⊎_elim
-      (λ o. rw o (record { rising = tt; sound = λ p i. absurd i; complete = λ p m i. absurd ((or_half zero t ok e o p m i).1 (alone t p.block e i)) }))
+      (λ o. rw o (record {
+        rising = tt;
+        sound = λ p i. absurd i;
+        complete = λ p m i. absurd ((or_half zero t ok e o p m i).1 (alone t p.block e i));
+      }))
       (λ n. rw n.1 (found_here zero t ok e none n.0 n.1)) (none_or_some (h (first_of t)))
   search (suc k) t ok e none =
       let r : 0 < free_bits t = omega arith in
@@ -342,7 +351,8 @@ weight d t r = cond (is_inside r.block t) (r.block.len - (t.len + d)) 0
 unfoldable pub count : ℕ → Block → Route → ℕ
 count d t r = cond (is_inside r.block t && nat_lt (t.len + d) r.block.len) 1 0
 
-halves_of : (a b c : Bool) (m l n : ℕ) → l ≡ n + 1 → (a ≡ true → c ≡ true) → (b ≡ true → c ≡ true) → (a ≡ true → b ≡ true → ⊥) → cond a (m - l) 0 + cond b (m - l) 0 + cond (c && nat_lt n m) 1 0 ≤ cond c (m - n) 0
+halves_of : (a b c : Bool) (m l n : ℕ) → l ≡ n + 1 → (a ≡ true → c ≡ true) → (b ≡ true → c ≡ true) → (a ≡ true → b ≡ true → ⊥)
+    → cond a (m - l) 0 + cond b (m - l) 0 + cond (c && nat_lt n m) 1 0 ≤ cond c (m - n) 0
 halves_of true true c m l n e f g both = absurd (both refl refl)
 halves_of true false c m l n e f g both = rw (f refl) (grind (arith, nat_tests, e))
 halves_of false true c m l n e f g both = rw (g refl) (grind (arith, nat_tests, e))
@@ -362,7 +372,7 @@ module _ (d : ℕ) (t : Block) (ok : IsBlock t) (room : 0 < free_bits t) where
       let okl = left_is_block t ok room in
       let okr = right_is_block t ok room in
       let not_both = λ (e : is_inside b (left t) ≡ true) (f : is_inside b (right t) ≡ true).
-      let o = halves_in_order t b b (inside_from_test b (left t) p okl e) (inside_from_test b (right t) p okr f) in strict b b o o in
+      let o = halves_in_order t b b (inside_from_test b _ p okl e) (inside_from_test b _ p okr f) in strict b b o o in
       let h = halves_of (is_inside b (left t)) (is_inside b (right t)) (is_inside b t) b.len (t.len + 1 + d) (t.len + d) (omega arith)
       (in_half b (left t) p okl (left_inside t ok room)) (in_half b (right t) p okr (right_inside t ok room)) not_both in
       omega (arith, h, halves_all rs (λ s j. k s (inr j)), sum_by-cons (weight d (left t)) r rs, sum_by-cons (weight d (right t)) r rs, sum_by-cons (count d t) r rs, sum_by-cons (weight d t) r rs)
@@ -515,7 +525,7 @@ pub governed_bound : (M : List Route) (n : Block) (bs : List Block) → IsTable 
 governed_bound M n bs table ok max =
     let h = hop M table n ok in
     let no_larger = λ (c : Block) (w : HasOneHop h c) (l : IsLarger c n). l.1 (λ x k.
-    has_from_test n x (and_parts (has_address n x) (not (covered M table n ok x)) (cond_some (has_address n x && not (covered M table n ok x)) 0 w.number (w.all x k)).0).0) in
+    has_from_test n x (and_parts _ _ (cond_some _ 0 w.number (w.all x k)).0).0) in
     let found = no_more (λ b (p : Piece). b ≡ p.block) bs (flat_in h (free_bits n) n) (Distinct-from_Rising IsBefore strict bs (Rising-from_pairs IsBefore bs max.ascending))
     (λ b i. let m = (max.exact b).0 (Contains-from_In bs b i) in (
       record { block = b; number = 0 },
@@ -560,7 +570,7 @@ kept_sum f p (x ∷ xs) = sum_by-cons (λ x. cond (p x) (f x) 0) x xs ∙ ap (λ
 weight_of : (f : Family) (r : Route) → weight 0 (family_block f) r ≤ cond (same_family r.block.family f) r.block.len 0
 unfolding weight
 weight_of f r = cond_both (is_inside r.block (family_block f)) (r.block.len - (0 + 0)) 0 (λ n. n ≤ cond (same_family r.block.family f) r.block.len 0)
-    (λ e. let s : same_family r.block.family f ≡ true = (and_parts _ _ (and_parts _ _ e).0).0 in rw s (omega arith)) (λ e. omega arith)
+    (λ e. let s = (and_parts (same_family r.block.family f) _ (and_parts _ _ e).0).0 in rw s (omega arith)) (λ e. omega arith)
 
 -- the pieces of a flat list in one family are those that a search of the family finds
 pub flat_bound : (M : List Route) → IsTable M → (ps : List Piece) → IsFlat (hop_at M) ps → (f : Family) → length (pieces_in f ps) ≤ 1 + lengths_in f M

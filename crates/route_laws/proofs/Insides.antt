@@ -281,7 +281,8 @@ module _ (b : Block) (ok : IsBlock b) where
         ((λ q i. before_inner b q.block ok (sound N g.table q i).0 (inner q i)), rising N g.table);
     inside = All-from_In (λ r. IsInside r.block b) (route_at b k ∷ N) (λ q i. ⊎_elim (λ e. subst (λ (r : Route). IsInside r.block b) (sym e) (λ x m. m)) (λ j. (inner q j).0) i);
     same = λ x m.
-        under_route (route_at b k) N s x (member_is_address b x ok m) ok m (λ q i. larger_is_shorter b q.block ok (sound N g.table q i).0 (inner q i))
+        under_route (route_at b k) N s x (member_is_address b x ok m) ok m
+        (λ q i. larger_is_shorter b q.block ok (sound N g.table q i).0 (inner q i))
         ∙ ap (λ j. hop_under j N x) (number_from_hop k) ∙ g.same x m;
   }
 

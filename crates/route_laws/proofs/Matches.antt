@@ -41,8 +41,8 @@ test_from_inside a b p q = (inside_by_numbers a b p q).0
 -- of a route and a match the longer is the route, or the match, which is longer then
 pub longer_cases : (r : Route) (o : Option Route) → (longer r o ≡ r) ⊎ ((Some (longer r o) ≡ o) × (Block.len r.block < Block.len (Route.block (longer r o))))
 longer_cases r None = inl refl
-longer_cases r (Some s) = cond_both (nat_lt r.block.len s.block.len) s r (λ t. (t ≡ r) ⊎ ((Some t ≡ Some s) × (r.block.len < t.block.len)))
-    (λ e. inr (refl, ltb-true _ _ e)) (λ e. inl refl)
+longer_cases r (Some s) = cond_both (nat_lt r.block.len s.block.len) s r
+    (λ t. (t ≡ r) ⊎ ((Some t ≡ Some s) × (r.block.len < t.block.len))) (λ e. inr (refl, ltb-true _ _ e)) (λ e. inl refl)
 
 abbrev pub AtLeast : Route → List Route → Type 0
 AtLeast r rs = In r rs × ((s : Route) → In s rs → Block.len s.block ≤ Block.len r.block)
@@ -73,7 +73,8 @@ module _ (M : List Route) (table : IsTable M) where
     pub cover_ascends : AllPairs (λ r s. r.block.len < s.block.len) (covering M n)
     cover_ascends i j d l m =
         let up = AllPairs-filter (Earlier Route.block) (λ r. is_inside n r.block) M table.ascending in
-        let holds = All-from_In (λ r. IsBlock r.block × HasAddress r.block (first_of n)) (covering M n) (λ r k. let t = in_covers r k in (block_in r t.0, t.1 (first_of n) (has_first n))) in
+        let holds = All-from_In (λ r. IsBlock r.block × HasAddress r.block (first_of n)) (covering M n)
+        (λ r k. let t = in_covers r k in (block_in r t.0, t.1 (first_of n) (has_first n))) in
         let r = slice_index_or (covering M n) i d in
         let s = slice_index_or (covering M n) j d in
         let k = holds i d (omega arith) in

@@ -284,13 +284,13 @@ module _ (T : List Stored) (ok : IsStoredTable T) (b : Block) (okb : IsBlock b) 
 
   pub changed_by_choices : (cs : List Choice) → AreChoices cs → (x : Address) → IsAddress x →
       Changed (routes_of T) (routes_of (with_choices T b cs)) x ↔ (Governed (routes_of T) b x × (match_number (match_of (routes_of T) b) ≢ match_number (match_of (routes_of (with_choices T b cs)) b)))
-  changed_by_choices cs are = changed_by (routes_of T) (routes_of (with_choices T b cs)) b before okb (is_change cs are) (match_number (match_of (routes_of (with_choices T b cs)) b)) refl
+  changed_by_choices cs are = changed_by (routes_of T) _ b before okb (is_change cs are) _ refl
 
   pub blocks_of_choices : (cs : List Choice) (bs : List Block) → AreChoices cs → IsMaximal (Governed (routes_of T) b) bs →
       ((match_number (match_of (routes_of T) b) ≢ match_number (match_of (routes_of (with_choices T b cs)) b)) → IsMaximal (Changed (routes_of T) (routes_of (with_choices T b cs))) bs)
       × (match_number (match_of (routes_of T) b) ≡ match_number (match_of (routes_of (with_choices T b cs)) b) → IsMaximal (Changed (routes_of T) (routes_of (with_choices T b cs))) [])
-  blocks_of_choices cs bs are = blocks_by (routes_of T) (routes_of (with_choices T b cs)) b before okb (is_change cs are) (match_number (match_of (routes_of (with_choices T b cs)) b)) refl bs
+  blocks_of_choices cs bs are = blocks_by (routes_of T) _ b before okb (is_change cs are) _ refl bs
 
   pub choices_have_one_hop : (cs : List Choice) → AreChoices cs → (d : Block) → Contains (maximal_of (changed (routes_of T) (routes_of (with_choices T b cs)))) d → (x : Address) → HasAddress d x →
       hop_at (routes_of (with_choices T b cs)) x ≡ match_number (match_of (routes_of (with_choices T b cs)) b)
-  choices_have_one_hop cs are = lines_by (routes_of T) (routes_of (with_choices T b cs)) b before okb (is_change cs are) (match_number (match_of (routes_of (with_choices T b cs)) b)) refl
+  choices_have_one_hop cs are = lines_by (routes_of T) _ b before okb (is_change cs are) _ refl

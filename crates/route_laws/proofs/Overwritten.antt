@@ -82,7 +82,7 @@ module _ {X : Type 0} (at : X → Block) where
     -- it is the one list with these members
     pub over_is : (N : List X) → AreAt N → ((y : X) → In y N → (y ≡ x) ⊎ (In y M × (IsInside (at y) (at x) → ⊥))) → In x N → ((y : X) → In y M → (IsInside (at y) (at x) → ⊥) → In y N) → N ≡ over M x
     over_is N t back itself other = same_rising (Earlier at) (λ y z. strict (at y) (at z)) N (over M x) t.rising (put_rises at (outside M (at x)) x (outside_are M m (at x) ok).rising)
-        (λ y i. ⊎_elim (λ e. subst (λ (z : X). In z (over M x)) (sym e) (put_itself at (outside M (at x)) x)) (λ u. over_other y u.0 u.1) (back y i))
+        (λ y i. ⊎_elim (λ e. subst (λ (z : X). In z (over M x)) (sym e) (put_itself at _ x)) (λ u. over_other y u.0 u.1) (back y i))
         (λ y i. ⊎_elim (λ e. subst (λ (z : X). In z N) (sym e) itself) (λ u. other y u.0 u.1) (over_back y i))
 
     -- where nothing lies strictly inside its block
@@ -180,7 +180,8 @@ module _ (M : List Route) (m : IsTable M) (r : Route) (ok : IsBlock r.block) whe
   -- so if it inherits this hop or none from outside the table
   pub over_under : IsHop r.hop → (s : Option ℕ) (x : Address) → IsAddress x → hop_under s (overwritten M r) x ≡ cond (has_address r.block x) (number_of r.hop) (hop_under s M x)
   over_under hop s x a = ap (inherited s) (over_match hop x a)
-      ∙ (elim (has_address r.block x) as (λ c. inherited s (cond c (Some r) (match_of M (host x))) ≡ cond c (number_of r.hop) (hop_under s M x)) [ true ↦ refl | false ↦ refl ])
+      ∙ (elim (has_address r.block x) as (λ c. inherited s (cond c (Some r) (match_of M (host x))) ≡ cond c (number_of r.hop) (hop_under s M x))
+      [ true ↦ refl | false ↦ refl ])
 
   pub over_hops : IsHop r.hop → (x : Address) → IsAddress x → hop_at (overwritten M r) x ≡ cond (has_address r.block x) (number_of r.hop) (hop_at M x)
   over_hops hop x a = sym (hop_is (overwritten M r) x) ∙ over_under hop None x a ∙ ap (cond (has_address r.block x) (number_of r.hop)) (hop_is M x)
@@ -190,7 +191,7 @@ module _ (M : List Route) (m : IsTable M) (r : Route) (ok : IsBlock r.block) whe
 module _ (M : List Route) (m : IsTable M) (r : Route) (ok : IsBlock r.block) where
   -- what the routes outside hand down
   handed_down : (x : Address) → IsAddress x → HasAddress r.block x → hop_at (without_inside M r.block) x ≡ match_number (match_of (without_inside M r.block) r.block)
-  handed_down x a h = ap match_number (governed_match (without_inside M r.block) (outside_is_table M m r ok) r.block ok x a (record {
+  handed_down x a h = ap match_number (governed_match _ (outside_is_table M m r ok) r.block ok x a (record {
     inside = h;
     free = λ u c l k. (outside_back Route.block M (routes_placed M m) r.block ok u (In-from_Contains (without_inside M r.block) u c)).1 l.0;
   }))

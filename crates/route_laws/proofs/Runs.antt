@@ -24,8 +24,8 @@ pub record Holds (h : Address → Option ℕ) (s : Installer) : Type 0 where
 abbrev state : List Route → List Route → Bool → Installer
 state T I b = record { table = T; installed = I; kept = b }
 
-told_hops : (h : Address → Option ℕ) (T rs : List Route) → IsTable T → ((x : Address) → IsAddress x → hop_at T x ≡ h x) → AreChanges rs
-    → (x : Address) → IsAddress x → hop_at (painted_all T rs) x ≡ hop_over (h x) rs x
+told_hops : (h : Address → Option ℕ) (T rs : List Route) → IsTable T → ((x : Address) → IsAddress x → hop_at T x ≡ h x)
+    → AreChanges rs → (x : Address) → IsAddress x → hop_at (painted_all T rs) x ≡ hop_over (h x) rs x
 told_hops h T rs t same c x a = painted_all_hops T rs t (changes_from rs c) x a ∙ ap (λ o. hop_over o rs x) (same x a)
 
 -- a table that is kept
@@ -159,15 +159,15 @@ abbrev Reaches : Installer → List Event → Type 0
 Reaches s es = after_all (with_haves s.installed es) (given s es) ≡ (after_events s es).installed
 
 -- from here on the table N is kept: the operations from I, and then those of the other events
-kept_then : (I N : List Route) (es : List Event) → after_all I (between I N) ≡ N → let t = state N N true in MayAllCome t es → Reaches t es
-    → after_all (with_haves I es) (between I N ++ given t es) ≡ (after_events t es).installed
+kept_then : (I N : List Route) (es : List Event) → after_all I (between I N) ≡ N → let t = state N N true in MayAllCome t es
+    → Reaches t es → after_all (with_haves I es) (between I N ++ given t es) ≡ (after_events t es).installed
 kept_then I N es e m rest =
     let t = state N N true in
     ap (λ M. after_all M (between I N ++ given t es)) (no_haves I es t refl m) ∙ after-append I (between I N) (given t es)
     ∙ ap (λ M. after_all M (given t es)) (e ∙ sym (no_haves N es t refl m)) ∙ rest
 
-reaches_after : (es : List Event) (h : Address → Option ℕ) (T I : List Route) (b : Bool) → Holds h (state T I b) → MayAllCome (state T I b) es
-    → Reaches (state T I b) es
+reaches_after : (es : List Event) (h : Address → Option ℕ) (T I : List Route) (b : Bool) → Holds h (state T I b)
+    → MayAllCome (state T I b) es → Reaches (state T I b) es
 reaches_after [] h T I b g m = refl
 reaches_after (Have r ∷ es) h T I b g m = reaches_after es h T (with_route I r) b (holds_event h T I b (Have r) g m.0) m.1
 reaches_after (Told rs N ∷ es) h T I true g m = kept_then I N es (made h T I true (Told rs N) g m.0).0 m.1

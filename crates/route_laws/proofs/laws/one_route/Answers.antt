@@ -32,14 +32,14 @@ module _ (h : Address → Option ℕ) (k : ℕ) (only : (x : Address) → IsAddr
     where
       is_flat : IsFlat h (map piece bs)
       is_flat = record {
-        ascending = pairs_from_Rising Sooner (map piece bs) (Rising-map IsBefore Sooner piece (λ b c l. l) bs (Rising-from_pairs IsBefore bs m.ascending));
+        ascending = pairs_from_Rising Sooner _ (Rising-map IsBefore Sooner piece (λ b c l. l) bs (Rising-from_pairs _ bs m.ascending));
         exact = λ p. (
           (λ c.
               let t = In-map piece bs p (In-from_Contains (map piece bs) p c) in
-              subst (λ (q : Piece). IsMaximalBlock (λ x. h x ≡ Some q.number) q.block) (sym t.2) ((m.exact t.0).0 (Contains-from_In bs t.0 t.1))),
+              rw t.2 ((m.exact t.0).0 (Contains-from_In bs t.0 t.1))),
           (λ w.
               let x = first_of p.block in
-              let e = only x (member_is_address p.block x w.within.block (has_first p.block)) p.number (w.within.all x (has_first p.block)) in
+              let e = only x (member_is_address _ x w.within.block (has_first _)) p.number (w.within.all x (has_first _)) in
               let c = (m.exact p.block).1 (subst (λ n. IsMaximalBlock (λ x. h x ≡ Some n) p.block) (sym e) w) in
               let s : piece p.block ≡ p = λ i. record { block = p.block; number = e i } in
               Contains-from_In (map piece bs) p (rw s at (map_In piece bs p.block (In-from_Contains bs p.block c)))),
@@ -74,16 +74,16 @@ module _ (b : Block) (ok : IsBlock b) where
     is_changed : maximal_of (changed [] (one_route b k)) ≡ b ∷ []
     is_changed = maximal_is_unique (Changed [] (one_route b k)) (maximal_of (changed [] (one_route b k))) (b ∷ []) (changed_is_maximal [] (one_route b k))
         (maximal_same (HasAddress b) (Changed [] (one_route b k)) (λ x a h e. none-some k (e ∙ inside x a h))
-        (λ x a d. has_from_test b x (true_from_ne_false (has_address b x) (λ f. d (sym (hops x a ∙ cond-false (has_address b x) (Some k) None f)))))
+        (λ x a d. has_from_test b x (true_from_ne_false (has_address b x) (λ f. d (sym (hops x a ∙ cond-false _ _ _ f)))))
         (b ∷ []) one_block)
 
     is_flat : flat_of (hop_at (one_route b k)) ≡ record { block = b; number = k } ∷ []
     is_flat = one_number (hop_at (one_route b k)) k (λ x a n e. (told x a n e).1) (b ∷ [])
-        (maximal_same (HasAddress b) (λ x. hop_at (one_route b k) x ≡ Some k) inside (λ x a e. has_from_test b x (told x a k e).0) (b ∷ []) one_block)
+        (maximal_same (HasAddress b) _ inside (λ x a e. has_from_test b x (told x a k e).0) (b ∷ []) one_block)
 
 pub returns : goal.returns
 returns c = record {
-  empty = one_number (hop_at []) 0 (λ x a n e. absurd (none-some n e)) [] (maximal_none (λ x. hop_at [] x ≡ Some 0) (λ x e. none-some 0 e));
+  empty = one_number (hop_at []) 0 (λ x a n e. absurd (none-some n e)) [] (maximal_none _ (λ x e. none-some 0 e));
   changed = λ b k ok fits. is_changed b ok k fits;
   hops = λ b k x ok fits a. hops b ok k fits x a;
   flat = λ b k ok fits. is_flat b ok k fits;

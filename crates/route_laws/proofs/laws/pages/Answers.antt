@@ -51,7 +51,7 @@ module _ (M : List Route) (m : IsTable M) (n : Block) where
       (λ s i.
       let j = In-right s xs (r ∷ ys) (inr i) in
       In-filter later M s (In-from_filter onwards M s (held s j)).0
-      (and_from _ _ (test_from_family s.block.family r.block.family (family s j ∙ sym (family r here))) (test_from_before r.block s.block (right.0 s i))))
+      (and_from _ _ (test_from_family _ _ (family s j ∙ sym (family r here))) (test_from_before _ _ (right.0 s i))))
     where
       later : Route → Bool
       later s = same_family s.block.family r.block.family && is_before r.block s.block
@@ -79,8 +79,8 @@ module _ (M : List Route) (m : IsTable M) (n : Block) where
         let t = split_last r (take k L) (drop k L) in
         let last = last_of r (take k L) in
         let f : routes_from M n ≡ (xs ++ t.0) ++ last ∷ drop k L =
-        e ∙ ap (λ zs. xs ++ r ∷ zs) (sym (take-append-drop k L)) ∙ ap (λ zs. xs ++ zs) t.1 ∙ sym (append_assoc xs t.0 (last ∷ drop k L)) in
-        ((xs ++ t.0) ++ last ∷ [], after_is_rest (xs ++ t.0) last (drop k L) f, f ∙ sym (append_assoc (xs ++ t.0) (last ∷ []) (drop k L)))
+        e ∙ ap (λ zs. xs ++ r ∷ zs) (sym (take-append-drop k L)) ∙ ap (λ zs. xs ++ zs) t.1 ∙ sym (append_assoc xs t.0 _) in
+        ((xs ++ t.0) ++ last ∷ [], after_is_rest (xs ++ t.0) last (drop k L) f, f ∙ sym (append_assoc _ (last ∷ []) _))
 
     all_pages : (most : ℕ) (xs L : List Route) → routes_from M n ≡ xs ++ L → length L ≤ most → flat_map (λ page. page) (pages_up_to most M (suc k) (take (suc k) L)) ≡ L
     all_pages most xs [] e h = refl
