@@ -6,10 +6,9 @@ use Rattle.route_choices.specs.Hops.{IsHop, number_of}
 use Rattle.route_laws.specs.Tables.{Route, IsTable, with_route, without_block, covering, longer, longest, match_of, hop_at, Changed, match_number, is_stored, Governed}
 use Rattle.route_laws.proofs.Insides.{Sound, rising, sound, table_kept, table_of, same_parts, host_inside}
 pub use Rattle.route_laws.proofs.Insides.{Sooner}
-use Rattle.route_laws.proofs.Ordered.{none_or_some, put_back, put_itself, put_other, put_rises, gone_back, gone_other, not_cases, not_from, same_or_not, put_gone}
+use Rattle.route_laws.proofs.Matches.{none_or_some, put_back, put_itself, put_other, put_rises, gone_back, gone_other, not_cases, not_from, same_or_not, put_gone, block_in, no_match, match_meets, match_from, inside_from_test, best_of, covers_in, in_covers, longer_cases, none_from, governed_match, match_of_own}
 use Rattle.std.proofs.lemmas.Bool.{eq-eqb, eqb-true, cond_both, cases_Bool, cond-true, cond-false}
 use Rattle.ipnet_addr.proofs.Ascending.{In-from_Contains, Contains-from_In}
-use Rattle.route_laws.proofs.Matches.{block_in, no_match, match_meets, match_from, inside_from_test, best_of, covers_in, in_covers, longer_cases, none_from, governed_match, match_of_own}
 use Rattle.ipnet_blocks.specs.Maximal.{IsMaximal, maximal_of}
 use Rattle.ipnet_blocks.proofs.Search.{search_is_maximal}
 use Rattle.route_laws.specs.Changes.{changed, same_number}

@@ -11,8 +11,7 @@ use Rattle.route_laws.specs.Operations.{Operation, IsHitless, after, after_all, 
 use Rattle.route_laws.specs.Tables.{Governed, IsMatch, Route, IsTable, hop_at, match_number, match_of, with_route, without_block, is_stored}
 use Rattle.route_laws.proofs.Alterations.{added_match, left_match, added_is_table, left_back, left_is_table, left_other}
 use Rattle.route_laws.proofs.Insides.{same_match, sound, Sooner, rising, same_in}
-use Rattle.route_laws.proofs.Matches.{block_in, match_from, match_meets, test_from_inside}
-use Rattle.route_laws.proofs.Ordered.{before_apart, put_back, put_itself, put_other, before_inner, shorter_first, same_or_not, Rising-map, gone_back, gone_other, not_from}
+use Rattle.route_laws.proofs.Matches.{block_in, match_from, match_meets, test_from_inside, before_apart, put_back, put_itself, put_other, before_inner, shorter_first, same_or_not, Rising-map, gone_back, gone_other, not_from}
 use Rattle.route_choices.specs.Hops.{IsHop}
 use Rattle.std.specs.List.{list_any}
 use Rattle.std.proofs.lemmas.List.{reverse-append, reverse-reverse, length-map, length-reverse}

@@ -9,14 +9,13 @@ use Rattle.route_choices.specs.Hops.{IsHop, number_of}
 use Rattle.route_choices.specs.declared.hop.Hop.TheVariants.{Number, Drop}
 use Rattle.route_laws.specs.Fewest.{HopsOfTable, AreHops}
 use Rattle.route_laws.specs.Tables.{IsMatch, Route, match_of, match_number, IsTable, covering, hop_at, longer, longest, with_route}
-use Rattle.route_laws.proofs.Matches.{match_meets, match_from, none_from}
+use Rattle.route_laws.proofs.Matches.{match_meets, match_from, none_from, none_or_some, before_apart, put_last, Rising-map, each_last}
 use Rattle.ipnet_addr.specs.Addresses.{Address, IsAddress}
 use Rattle.route_choices.specs.Choices.{Choice, choices_with, default_preference}
 use Rattle.route_choices.proofs.Kept.{In-map, filter_map_swap, map_In}
 use Rattle.route_laws.specs.Networks.{Stored, choices_at, with_choice, with_choices, IsStoredTable, routes_of}
 use Rattle.route_laws.proofs.Insides.{Sound, rising, sound, table_of}
 use Rattle.route_laws.proofs.Networks.{at_cases, Earlier, IsGood, stored_table_of}
-use Rattle.route_laws.proofs.Ordered.{none_or_some, before_apart, put_last, Rising-map, each_last}
 use Rattle.ipnet_blocks.proofs.BlockLaws.{has_first}
 use Rattle.route_laws.specs.Changes.{route_for, with_pieces, with_each}
 use Rattle.route_laws.specs.Flats.{Piece, IsFlat}

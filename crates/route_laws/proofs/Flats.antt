@@ -15,7 +15,7 @@ use Rattle.ipnet_blocks.proofs.Maximals.{host_is_block, in_host, has_host, membe
 use Rattle.route_laws.specs.Flats.{Piece, IsFlat, blocks_of, HasOneHop, IsAdmissible, common, one_hop_in, flat_in, flat_of, piece_or}
 use Rattle.std.proofs.lemmas.Option.{cond_some, none-some}
 use Rattle.ipnet_blocks.proofs.Search.{left_is_block, right_is_block, left_inside, right_inside, in_a_half, address_in_a_half, halves_in_order, whole_is_block, inside_whole, leaf_address}
-use Rattle.route_laws.proofs.Ordered.{Rising-map, alone, none_or_some, no_members, same_or_not, not_cases, not_from}
+use Rattle.route_laws.proofs.Matches.{Rising-map, alone, none_or_some, no_members, same_or_not, not_cases, not_from, block_in, bools_same, inside_from_test, same_length, test_from_inside, governed_match}
 use Rattle.route_choices.proofs.Kept.{map_In, In-map as In-from_map, Rising-joined, Rising-kept, In-from_filter, In-filter}
 use Rattle.std.specs.List.{list_any}
 use Rattle.std.proofs.lemmas.Bool.Decides.{nat_tests}
@@ -23,7 +23,6 @@ use Rattle.std.proofs.lemmas.List.Sums.{sum_by-cons, sum_by-le-sum_by}
 use Rattle.ipnet_blocks.proofs.BlockTests.{has_from_test, test_from_has}
 use Rattle.route_laws.specs.Bounds.{excess, pieces_in, lengths_in}
 use Rattle.route_laws.specs.Tables.{Route, IsTable, Governed, hop_at, match_of, match_number}
-use Rattle.route_laws.proofs.Matches.{block_in, bools_same, inside_from_test, same_length, test_from_inside, governed_match}
 use Rattle.ipnet_addr.proofs.Families.{family_from_test, test_from_family}
 
 pub In-map : (p : Piece) (ps : List Piece) → In p ps → In (Piece.block p) (blocks_of ps)

@@ -11,8 +11,7 @@ use Rattle.route_choices.specs.Hops.{IsHop, number_of, hop_from}
 use Rattle.route_choices.proofs.Kept.{Rising-kept, Rising-joined, length-apart, In-filter, In-from_filter}
 use Rattle.route_laws.specs.Fewest.{inherited, hop_under, GivesInside, IsFewest, LeastIsFewest, AreHops}
 use Rattle.route_laws.specs.Tables.{Route, IsTable, covering, longer, longest, match_of, hop_at, match_number}
-use Rattle.route_laws.proofs.Matches.{AtLeast, best_of, inside_from_test, test_from_inside}
-use Rattle.route_laws.proofs.Ordered.{one_of_block, same_or_not, before_apart, before_inner}
+use Rattle.route_laws.proofs.Matches.{AtLeast, best_of, inside_from_test, test_from_inside, one_of_block, same_or_not, before_apart, before_inner}
 use Rattle.ipnet_addr.proofs.Families.{family_from_test}
 use Rattle.ipnet_blocks.proofs.Search.{whole_is_block, inside_whole, left_is_block, right_is_block, left_inside, right_inside, in_a_half, address_in_a_half, leaf_address, halves_in_order}
 use Rattle.std.proofs.Math.Nat.{div-eq_of_lt}

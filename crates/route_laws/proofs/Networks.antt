@@ -14,7 +14,7 @@ use Rattle.route_choices.proofs.Kept.{filter_map_swap, In-map, map_In, In-from_f
 use Rattle.route_choices.proofs.Preferences.{test_from_hop, test_from_apart}
 use Rattle.route_choices.proofs.ChoiceLists.{left_back, without_are, without_none, with_are, none_are}
 use Rattle.route_laws.specs.Tables.{Route, IsTable, with_route, without_block, match_of, match_number, hop_at, Changed, Governed}
-use Rattle.route_laws.proofs.Ordered.{same_or_not, put_back, put_itself, put_other, put_rises, gone_back, gone_other, one_of_block, Rising-map, put_again, put_gone, no_members}
+use Rattle.route_laws.proofs.Matches.{same_or_not, put_back, put_itself, put_other, put_rises, gone_back, gone_other, one_of_block, Rising-map, put_again, put_gone, no_members}
 use Rattle.route_laws.proofs.Insides.{Sooner, Sound, rising as table_rises, table_of}
 use Rattle.route_laws.specs.Networks.{Stored, IsStoredTable, best_route, routes_of, choices_at, with_stored, without_stored, without_each, with_choices, with_choice, without_choice}
 use Rattle.ipnet_addr.specs.Addresses.{Address, IsAddress}

@@ -20,9 +20,8 @@ use Rattle.route_laws.specs.Tables.{Route, IsTable, longer, longest, match_of, h
 use Rattle.route_laws.proofs.Insides.{hop_is, Sooner, filter_again, has_from_test as held_from_test, table_kept}
 use Rattle.route_laws.proofs.Alterations.{match_after_add, added_is_table, same_from_test}
 use Rattle.route_laws.specs.Networks.{IsLeaf, Stored, IsStoredTable, best_route, networks_outside, overwritten_by, routes_of}
-use Rattle.route_laws.proofs.Matches.{block_in, governed_match, inside_from_test, match_of_own, test_from_inside, bools_same}
+use Rattle.route_laws.proofs.Matches.{block_in, governed_match, inside_from_test, match_of_own, test_from_inside, bools_same, Earlier, put, put_back, put_itself, put_other, put_rises, not_cases, not_from, alone}
 use Rattle.route_laws.proofs.Networks.{routes_with, stored_block, stored_kept}
-use Rattle.route_laws.proofs.Ordered.{Earlier, put, put_back, put_itself, put_other, put_rises, not_cases, not_from, alone}
 use Rattle.std.proofs.lemmas.List.Elements.{All-map}
 use Rattle.ipnet_blocks.specs.Maximal.{IsMaximal}
 use Rattle.route_choices.specs.declared.hop.Hop.{Hop}

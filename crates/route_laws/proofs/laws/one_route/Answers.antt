@@ -18,7 +18,7 @@ use Rattle.route_laws.specs.Tables.{Changed, hop_at}
 use Rattle.route_laws.proofs.Alterations.{changed_is_maximal}
 use Rattle.route_laws.proofs.Flats.{Sooner, maximal_one, same_flat, search_is_flat}
 use Rattle.route_laws.proofs.Insides.{empty_is_table}
-use Rattle.route_laws.proofs.Ordered.{Rising-map}
+use Rattle.route_laws.proofs.Matches.{Rising-map}
 use Rattle.route_laws.proofs.Overwritten.{over_hops}
 use Rattle.route_laws.proofs.laws.one_route.Goals as goal
 

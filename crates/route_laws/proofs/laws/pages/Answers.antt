@@ -16,7 +16,7 @@ use Rattle.route_laws.specs.Onwards.{routes_from, routes_after}
 use Rattle.route_laws.specs.Pages.{last_of, pages_up_to}
 use Rattle.route_laws.specs.Tables.{Route, IsTable}
 use Rattle.route_laws.proofs.Insides.{Sooner, rising}
-use Rattle.route_laws.proofs.Ordered.{not_cases, not_from, before_apart}
+use Rattle.route_laws.proofs.Matches.{not_cases, not_from, before_apart}
 use Rattle.route_laws.proofs.laws.pages.Goals as goal
 
 right_rises : (xs ys : List Route) → Rising Sooner (xs ++ ys) → Rising Sooner ys
