@@ -1,22 +1,23 @@
 -- The pages of a table are its routes from a network on.
-use Rattle.std.proofs.Common.{◌≡◌, ℕ, zero, suc, ◌+◌, ◌≤◌, inl, inr, ⊎_elim, not, ◌&&◌, Bool, List, [], ◌∷◌, ◌++◌, length, take, drop, refl, sym, ap, ◌∙◌, subst, length-drop, take-append-drop, append_assoc, flat_map, arith}
-use Rattle.std.proofs.lemmas.Bool.{and_parts, and_from}
+use Rattle.std.proofs.Common.{filter, ◌≡◌, ℕ, zero, suc, ◌+◌, ◌≤◌, inl, inr, not, ◌&&◌, Bool, List, [], ◌∷◌, ◌++◌, length, take, drop, refl, sym, ap, ◌∙◌, subst, length-drop, take-append-drop, append_assoc, flat_map, arith}
+use Rattle.std.proofs.lemmas.Bool.{and_parts, and_from, cond-false, false_from_ne_true}
+use Rattle.std.proofs.lemmas.List.Elements.{filter-append}
 use Rattle.ipnet_addr.proofs.Basics.{filtered_length}
 use Rattle.ipnet_addr.specs.Addresses.{same_family}
-use Rattle.ipnet_addr.proofs.Members.{In, In-right, In-cases}
-use Rattle.ipnet_addr.proofs.Ascending.{Rising, same_rising}
+use Rattle.ipnet_addr.proofs.Members.{In, In-right}
+use Rattle.ipnet_addr.proofs.Ascending.{Rising}
 use Rattle.ipnet_blocks.specs.Blocks.{Block, is_before}
 use Rattle.ipnet_addr.proofs.Families.{family_from_test, test_from_family}
 use Rattle.ipnet_blocks.proofs.BlockLaws.{strict, transitive}
 use Rattle.ipnet_blocks.proofs.BlockTests.{before_from_test, test_from_before}
 use Rattle.ipnet_blocks.proofs.Lists.{rising_cross}
-use Rattle.route_choices.proofs.Kept.{In-from_filter, In-filter, Rising-kept}
+use Rattle.route_choices.proofs.Kept.{In-from_filter, Rising-kept, all_kept, none_kept}
 use Rattle.route_laws.specs.Laws.{PagesAreRoutes, PagesEnd}
 use Rattle.route_laws.specs.Onwards.{routes_from, routes_after}
 use Rattle.route_laws.specs.Pages.{last_of, pages_up_to}
 use Rattle.route_laws.specs.Tables.{Route, IsTable}
-use Rattle.route_laws.proofs.Insides.{Sooner, rising}
-use Rattle.route_laws.proofs.Matches.{not_cases, not_from, before_apart}
+use Rattle.route_laws.proofs.Insides.{Sooner, filter_again, rising}
+use Rattle.route_laws.proofs.Matches.{not_cases, not_from}
 use Rattle.route_laws.proofs.laws.pages.Goals as goal
 
 right_rises : (xs ys : List Route) → Rising Sooner (xs ++ ys) → Rising Sooner ys
@@ -33,25 +34,22 @@ module _ (M : List Route) (m : IsTable M) (n : Block) where
 
   -- what comes after one of the routes from n on is the rest of them
   after_is_rest : (xs : List Route) (r : Route) (ys : List Route) → routes_from M n ≡ xs ++ r ∷ ys → routes_after M r.block ≡ ys
-  after_is_rest xs r ys e = same_rising Sooner (λ s t. strict s.block t.block) (routes_after M r.block) ys
-      (Rising-kept Sooner later M (rising M m)) right.1
-      (λ s i.
-      let t = In-from_filter later M s i in
-      let q = and_parts _ _ t.1 in
+  after_is_rest xs r ys e =
+      sym (filter_again onwards later M (λ s i f.
+      let q = and_parts _ _ f in
       let l = before_from_test r.block s.block q.1 in
-      let near = family_from_test s.block.family r.block.family q.0 ∙ family r here in
       let not_before = (and_parts _ _ (In-from_filter onwards M r (held r here)).1).1 in
-      let in_all = In-filter onwards M s t.0 (and_from _ _ (test_from_family s.block.family n.family near)
+      and_from _ _ (test_from_family s.block.family n.family (family_from_test s.block.family r.block.family q.0 ∙ family r here))
       (not_from (is_before s.block n) (λ b. not_cases (is_before r.block n) not_before
-      (test_from_before r.block n (transitive r.block s.block n l (before_from_test s.block n b)))))) in
-      ⊎_elim
-      (λ k. absurd (strict s.block r.block (rising_cross Sooner xs (r ∷ ys) up s r k (inl refl)) l))
-      (λ k. ⊎_elim (λ p. absurd (before_apart r.block s.block l (ap Route.block (sym p)))) (λ j. j) k)
-      (In-cases s xs (r ∷ ys) (subst (In s) e in_all)))
-      (λ s i.
+      (test_from_before r.block n (transitive r.block s.block n l (before_from_test s.block n b)))))))
+      ∙ ap (filter later) e ∙ filter-append later xs (r ∷ ys)
+      ∙ ap (λ zs. zs ++ filter later (r ∷ ys)) (none_kept later xs (λ s i. false_from_ne_true (later s) (λ f.
+      strict s.block r.block (rising_cross Sooner xs (r ∷ ys) up s r i (inl refl)) (before_from_test r.block s.block (and_parts _ _ f).1))))
+      ∙ cond-false (later r) (r ∷ filter later ys) (filter later ys) (false_from_ne_true (later r) (λ f.
+      let l = before_from_test r.block r.block (and_parts _ _ f).1 in strict r.block r.block l l))
+      ∙ all_kept later ys (λ s i.
       let j = In-right s xs (r ∷ ys) (inr i) in
-      In-filter later M s (In-from_filter onwards M s (held s j)).0
-      (and_from _ _ (test_from_family _ _ (family s j ∙ sym (family r here))) (test_from_before _ _ (right.0 s i))))
+      and_from _ _ (test_from_family _ _ (family s j ∙ sym (family r here))) (test_from_before _ _ (right.0 s i)))
     where
       later : Route → Bool
       later s = same_family s.block.family r.block.family && is_before r.block s.block
