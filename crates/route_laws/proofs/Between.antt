@@ -290,26 +290,22 @@ comes_strict (Remove b) (Install s) h k = h
 comes_strict (Remove b) (Remove c) h k = strict b c h k
 
 module _ (M N : List Route) (old : IsTable M) (new : IsTable N) where
-  come : Rising Comes (between M N)
-  come = Rising-joined Comes (installs (reverse (missing M N))) (removes (surplus M N))
+  pub each : Distinct (between M N)
+  each = Distinct-from_Rising Comes comes_strict (between M N) (Rising-joined Comes (installs (reverse (missing M N))) (removes (surplus M N))
       (Rising-map Later Comes Install (λ r s h. h) (reverse (missing M N)) (falls (missing M N) (Rising-kept Sooner _ N (rising N new))))
       (Rising-map Sooner Comes (λ r. Remove (Route.block r)) (λ r s h. h) (surplus M N) (Rising-kept Sooner _ M (rising M old)))
       (λ o p i j. let t = In-map Install (reverse (missing M N)) o i in let u = In-map (λ r. Remove (Route.block r)) (surplus M N) p j in
-      subst (λ (q : Operation). Comes q p) (sym t.2) (subst (λ (q : Operation). Comes (Install t.0) q) (sym u.2) tt))
-
-  pub each : Distinct (between M N)
-  each = Distinct-from_Rising Comes comes_strict (between M N) come
+      subst (λ (q : Operation). Comes q p) (sym t.2) (subst (λ (q : Operation). Comes (Install t.0) q) (sym u.2) tt)))
 
   pub fewest : (L : List Operation) → after_all M L ≡ N → length (between M N) ≤ length L
   fewest L e = no_more (λ o p. o ≡ p) (between M N) L each
-      (λ o i. (o, inside o i, refl))
+      (λ o i.
+      let inside : In o L = ⊎_elim
+          (λ t. rw t.2 (⊎_elim (λ k. absurd (t.1.1 k)) (λ k. k) (is_installed M L t.0 (rw e t.1.0))))
+          (λ t. rw t.2 (is_removed M L t.0 t.1.0 (λ s k f. t.1.1 s (rw e at k) f)))
+          (is_one M N o i) in
+      (o, inside, refl))
       (λ o p q i j f g. f ∙ sym g)
-    where
-      inside : (o : Operation) → In o (between M N) → In o L
-      inside o i = ⊎_elim
-          (λ t. subst (λ (p : Operation). In p L) (sym t.2) (⊎_elim (λ k. absurd (t.1.1 k)) (λ k. k) (is_installed M L t.0 (subst (λ (K : List Route). In t.0 K) (sym e) t.1.0))))
-          (λ t. subst (λ (p : Operation). In p L) (sym t.2) (is_removed M L t.0 t.1.0 (λ s k f. t.1.1 s (subst (λ (K : List Route). In s K) e k) f)))
-          (is_one M N o i)
 
 -- ---- the operations of changes
 
@@ -341,10 +337,6 @@ module _ (M : List Route) (r : Route) (m : IsTable M) (ok : IsBlock r.block) whe
   painted_other s i f = cond_both _ _ _ (In s)
       (λ e. outside_other Route.block M (routes_placed M m) r.block ok s i f) (λ e. over_other Route.block M (routes_placed M m) r ok s i f)
 
-  strictly : (s : Route) → In s M → IsInside s.block r.block → (s.block ≡ r.block → ⊥) → In s (strictly_inside M r.block)
-  strictly s i h f = In-filter (λ s. is_inside s.block r.block && not (same_block s.block r.block)) M s i
-      (and_from (is_inside s.block r.block) (not (same_block s.block r.block)) (test_from_inside s.block r.block (block_in M m s i) ok h) (not_from (same_block s.block r.block) (λ e. f (same_from_test s.block r.block e))))
-
   counted : IsHop r.hop → length (between M (painted M r)) ≤ 1 + length (strictly_inside M r.block)
   counted hop =
       let new = painted_is_table M m r ok hop in
@@ -359,7 +351,10 @@ module _ (M : List Route) (r : Route) (m : IsTable M) (ok : IsBlock r.block) whe
       at o (inr t) = ⊎_elim
           (λ e. (r, inl refl, ap touched t.2 ∙ e))
           (λ f. ⊎_elim
-          (λ h. (t.0, inr (strictly t.0 t.1.0 h f), ap touched t.2))
+          (λ h.
+          let s = In-filter (λ s. is_inside s.block r.block && not (same_block s.block r.block)) M t.0 t.1.0
+              (and_from _ _ (test_from_inside _ _ (block_in M m t.0 t.1.0) ok h) (not_from _ (λ e. f (same_from_test _ _ e)))) in
+          (t.0, inr s, ap touched t.2))
           (λ h. absurd (t.1.1 t.0 (painted_other t.0 t.1.0 h) refl))
           (decide_inside (Route.block t.0) r.block (block_in M m t.0 t.1.0) ok))
           (same_or_not (Route.block t.0) r.block)

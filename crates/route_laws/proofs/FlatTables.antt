@@ -19,7 +19,7 @@ use Rattle.route_laws.proofs.Networks.{at_cases, Earlier, IsGood, stored_table_o
 use Rattle.ipnet_blocks.proofs.BlockLaws.{has_first}
 use Rattle.route_laws.specs.Changes.{route_for, with_pieces, with_each}
 use Rattle.route_laws.specs.Flats.{Piece, IsFlat}
-use Rattle.route_laws.specs.Laws.{FlatIsTable, FlatRebuilds, FlatReadded, ReaddedAreNew}
+use Rattle.route_laws.specs.Laws.{FlatRebuilds, FlatReadded, ReaddedAreNew}
 use Rattle.route_laws.proofs.Flats.{Sooner, piece_at, piece_is_maximal, same_piece, tells, flat_moved}
 use Rattle.ipnet_blocks.proofs.Lists.{rising_cross, rising_front}
 use Rattle.route_choices.proofs.ChoiceLists.{one_is}
@@ -103,19 +103,19 @@ module _ (h : Address → Option ℕ) (ps : List Piece) (small : AreHops h) (fla
         omega arith;
   }
 
-  has_hops : (x : Address) → IsAddress x → hop_at N x ≡ h x
-  has_hops x a = ⊎_elim
-      (λ e. ap match_number (none_from N is_table (host x) (host_is_block x a) (λ r i l.
-      let t = In-map route_for ps r i in
-      let z = tells h ps flat t.0 t.1 x (subst (λ (s : Route). HasAddress s.block x) t.2 (l x (has_host x))) in
-      none-some t.0.number (sym e ∙ z))) ∙ sym e)
-      (λ s.
-      let t = piece_at h ps flat x a s.0 s.1 in
-      ap match_number (match_from N is_table (host x) (host_is_block x a) (route_for t.0) (matched x t.0 t.1 t.2)) ∙ ap (λ (n : ℕ). Some n) t.3 ∙ sym s.1)
-      (none_or_some (h x))
-
-pub flat_is_table : FlatIsTable
-flat_is_table h ps small flat = record { table = is_table h ps small flat; same = has_hops h ps small flat }
+  pub flat_is_table : HasHops h N
+  flat_is_table = record {
+    table = is_table;
+    same = λ x a. ⊎_elim
+        (λ e. ap match_number (none_from N is_table (host x) (host_is_block x a) (λ r i l.
+        let t = In-map route_for ps r i in
+        let z = tells h ps flat t.0 t.1 x (subst (λ (s : Route). HasAddress s.block x) t.2 (l x (has_host x))) in
+        none-some t.0.number (sym e ∙ z))) ∙ sym e)
+        (λ s.
+        let t = piece_at h ps flat x a s.0 s.1 in
+        ap match_number (match_from N is_table (host x) (host_is_block x a) (route_for t.0) (matched x t.0 t.1 t.2)) ∙ ap (λ (n : ℕ). Some n) t.3 ∙ sym s.1)
+        (none_or_some (h x));
+  }
 
 -- ---- a table made of the pieces of a flat list has the same hops; so has a table of networks
 
