@@ -1,4 +1,4 @@
--- Which hops an added route changes, and one that is taken out.
+-- What a table holds after a change of one route, the longest matches then, and the hops that change.
 use Rattle.std.proofs.Common.{◌≡◌, ◌⊎◌, ⊎_elim, not, List, sym, subst, inl, inr, true, cond, ◌∷◌, filter, Option, Some, None, refl, ap, ◌∙◌, Contains, ◌≢◌, ◌↔◌, arith, ℕ, false, []}
 use Rattle.ipnet_blocks.specs.Blocks.{Block, IsBlock, same_block, IsInside, is_before, is_inside, HasAddress, host}
 use Rattle.ipnet_addr.proofs.Members.{In, In-right}
@@ -34,8 +34,6 @@ module _ (M : List Route) (table : IsTable M) where
 
     pub left_is_table : IsTable (without_block M n)
     left_is_table = table_kept (λ s. not (same_block s.block n)) M table
-
--- ---- what the table holds, and its matches
 
 pub members_after_add : (M : List Route) (r s : Route) → IsTable M → IsBlock r.block → Contains (with_route M r) s ↔ ((s ≡ r) ⊎ (Contains M s × (s.block ≢ r.block)))
 members_after_add M r s m ok = (
@@ -93,7 +91,7 @@ match_after_del M n b m is other = ⊎_elim
     table : IsTable (without_block M b)
     table = left_is_table M m b
 
--- ---- the list that a change prints is the list of the maximal blocks of the addresses whose hop differs, as a fact and not as a test
+-- ---- the list that a change prints: the maximal blocks of the addresses whose hop differs, as a fact and not as a test
 
 pub same_from_test : (o p : Option ℕ) → same_number o p ≡ true → o ≡ p
 same_from_test None None e = refl

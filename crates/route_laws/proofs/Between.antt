@@ -1,4 +1,4 @@
--- The operations between two tables lead from the one to the other.
+-- Operations towards a table, on whose way the hop of each address turns once. Those between two tables, and how many there are.
 use Rattle.std.proofs.Common.{◌≡◌, ℕ, zero, suc, ◌≤◌, ◌⊎◌, inl, inr, ⊎_elim, List, [], ◌∷◌, take, Option, Some, refl, sym, ap, ◌∙◌, arith, ◌&&◌, true, not, ◌++◌, subst, reverse, length, ◌+◌, length-append, append-nil}
 use Rattle.std.proofs.lemmas.Bool.{eq-eqb, eqb-true, cases_lt, and_parts, cases_Bool, and_from, cond_both}
 use Rattle.ipnet_addr.specs.Addresses.{Address, IsAddress}
@@ -105,8 +105,6 @@ hitless_from M os f = record {
   turns = λ x a i j l. let t = f x a in
       ⊎_elim (λ e. inl e) (λ e. inr (e ∙ sym (once_end x M os t.0 t.1))) (once_turns x M os t.0 t.1 i j l);
 }
-
--- ---- the operations between two tables lead from the one to the other
 
 -- ---- lists turned round
 
@@ -242,7 +240,7 @@ pub after-append : (M : List Route) (os ps : List Operation) → after_all M (os
 after-append M [] ps = refl
 after-append M (o ∷ os) ps = after-append (after M o) os ps
 
--- ---- nearest tables and the fewest operations
+-- ---- none are fewer, and changes take few
 
 -- a route that was not there is installed
 pub is_installed : (M : List Route) (L : List Operation) (r : Route) → In r (after_all M L) → In r M ⊎ In (Install r) L
@@ -301,9 +299,9 @@ module _ (M N : List Route) (old : IsTable M) (new : IsTable N) where
   fewest L e = no_more (λ o p. o ≡ p) (between M N) L each
       (λ o i.
       let inside : In o L = ⊎_elim
-          (λ t. rw t.2 (⊎_elim (λ k. absurd (t.1.1 k)) (λ k. k) (is_installed M L t.0 (rw e t.1.0))))
-          (λ t. rw t.2 (is_removed M L t.0 t.1.0 (λ s k f. t.1.1 s (rw e at k) f)))
-          (is_one M N o i) in
+      (λ t. rw t.2 (⊎_elim (λ k. absurd (t.1.1 k)) (λ k. k) (is_installed M L t.0 (rw e t.1.0))))
+      (λ t. rw t.2 (is_removed M L t.0 t.1.0 (λ s k f. t.1.1 s (rw e at k) f)))
+      (is_one M N o i) in
       (o, inside, refl))
       (λ o p q i j f g. f ∙ sym g)
 
@@ -353,7 +351,7 @@ module _ (M : List Route) (r : Route) (m : IsTable M) (ok : IsBlock r.block) whe
           (λ f. ⊎_elim
           (λ h.
           let s = In-filter (λ s. is_inside s.block r.block && not (same_block s.block r.block)) M t.0 t.1.0
-              (and_from _ _ (test_from_inside _ _ (block_in M m t.0 t.1.0) ok h) (not_from _ (λ e. f (same_from_test _ _ e)))) in
+          (and_from _ _ (test_from_inside _ _ (block_in M m t.0 t.1.0) ok h) (not_from _ (λ e. f (same_from_test _ _ e)))) in
           (t.0, inr s, ap touched t.2))
           (λ h. absurd (t.1.1 t.0 (painted_other t.0 t.1.0 h) refl))
           (decide_inside (Route.block t.0) r.block (block_in M m t.0 t.1.0) ok))

@@ -1,4 +1,4 @@
--- The pieces of a flat list as routes are a table with its hops.
+-- The hops of a table are numbers that a route can have. Tables made of flat lists have their hops.
 use Rattle.std.proofs.Common.{◌≡◌, ℕ, ◌<◌, ◌^◌, Option, Some, None, IfSome, refl, subst, ⊎_elim, true, false, nat_lt, cond, List, [], ◌∷◌, ◌++◌, map, sym, ap, ◌∙◌, option_map, arith, inl}
 use Rattle.std.proofs.lemmas.Option.{none-some}
 use Rattle.ipnet_addr.proofs.Ascending.{In-from_All, In-from_Contains, Contains-from_In, Rising-from_pairs, Rising}

@@ -1,4 +1,4 @@
--- What the longest match is.
+-- Lists of things at blocks, ascending by these: one put in the place of any other of its block, or taken out. The longest match.
 use Rattle.std.proofs.Common.{◌≡◌, ◌⊎◌, ◌<◌, arith, inl, inr, ⊎_elim, Bool, true, not, Option, None, Some, List, [], ◌∷◌, ◌++◌, filter, map, sym, refl, ap, ◌∙◌, subst, append-nil, append_assoc, ◌≤◌, ◌-◌, ◌/◌, ◌^◌, false, nat_lt, AllPairs, slice_index_or, MatchOption}
 use Rattle.std.proofs.lemmas.Bool.{cases_lt, false_from_ne_true, not_from_false, cond_both, ltb-false, ltb-true}
 use Rattle.ipnet_addr.specs.Addresses.{Address, rank, IsAddress, width}
