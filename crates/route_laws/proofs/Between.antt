@@ -23,7 +23,7 @@ use Rattle.route_choices.proofs.Preferences.{hop_from_test, same_itself}
 use Rattle.ipnet_blocks.proofs.Parents.{decide_inside}
 use Rattle.route_laws.proofs.Overwritten.{outside_back, outside_other, over_back, over_other, routes_placed, Changes, painted_all_is_table, painted_is_table, changes_from}
 use Rattle.route_laws.specs.Painted.{most_operations, painted, painted_all, strictly_inside}
-use Rattle.route_laws.specs.Nearest.{FewestIsNearest, LeastIsNearest, NearestIsBounded, NearestIsFewest, NearestIsHitless}
+use Rattle.route_laws.specs.Nearest.{FewestIsNearest, LeastIsNearest, NearestIsBounded, NearestIsFewest}
 
 module _ (N : List Route) (new : IsTable N) where
   -- a table with a route of N
@@ -383,9 +383,6 @@ nearest_is_fewest M h N m n = record {
   hops = rw (between_reaches M N m n.hops.table) n.hops;
   fewest = λ L g. omega (arith, n.nearest (after_all M L) g, fewest M (after_all M L) m g.table L refl);
 }
-
-pub nearest_is_hitless : NearestIsHitless
-nearest_is_hitless M h N m n = between_hitless M N m n.hops.table
 
 pub fewest_is_nearest : FewestIsNearest
 fewest_is_nearest M h os m f = record {

@@ -189,11 +189,11 @@ module _ (M : List Route) (m : IsTable M) (r : Route) (ok : IsBlock r.block) whe
 
 module _ (M : List Route) (m : IsTable M) (r : Route) (ok : IsBlock r.block) where
   -- what the routes outside hand down
-  handed_down : (x : Address) → IsAddress x → HasAddress r.block x → hop_at (without_inside M r.block) x ≡ match_number (match_of (without_inside M r.block) r.block)
-  handed_down x a h = ap match_number (governed_match _ (outside_is_table M m r ok) r.block ok x a (record {
+  handed_down : (x : Address) → IsAddress x → HasAddress r.block x → match_of (without_inside M r.block) (host x) ≡ match_of (without_inside M r.block) r.block
+  handed_down x a h = governed_match _ (outside_is_table M m r ok) r.block ok x a (record {
     inside = h;
-    free = λ u c l k. (outside_back Route.block M (routes_placed M m) r.block ok u (In-from_Contains (without_inside M r.block) u c)).1 l.0;
-  }))
+    free = λ u c l k. (outside_back Route.block M (routes_placed M m) r.block ok u (In-from_Contains _ u c)).1 l.0;
+  })
 
   pub painted_is_table : IsHop r.hop → IsTable (painted M r)
   painted_is_table hop = cond_both _ _ _ IsTable (λ e. outside_is_table M m r ok) (λ e. over_is_table M m r ok hop)
@@ -202,7 +202,7 @@ module _ (M : List Route) (m : IsTable M) (r : Route) (ok : IsBlock r.block) whe
   painted_hops hop x a = cond_both _ _ _
       (λ N. hop_at N x ≡ cond (has_address r.block x) (number_of r.hop) (hop_at M x))
       (λ e. cond_both (has_address r.block x) (number_of r.hop) (hop_at M x) (λ o. hop_at (without_inside M r.block) x ≡ o)
-      (λ f. handed_down x a (has_from_test r.block x f) ∙ same_from_test (match_number (match_of (without_inside M r.block) r.block)) (number_of r.hop) e)
+      (λ f. ap match_number (handed_down x a (has_from_test r.block x f)) ∙ same_from_test _ _ e)
       (λ f. ap match_number (outside_match M m r ok x a f)))
       (λ e. over_hops M m r ok hop x a)
 

@@ -3,7 +3,7 @@ use Rattle.std.proofs.Common.{◌≡◌, ℕ, ⊎_elim, arith, Bool, true, false
 use Rattle.std.proofs.lemmas.List.{nil_from_length}
 use Rattle.ipnet_addr.specs.Addresses.{Address, IsAddress}
 use Rattle.route_laws.specs.Nearest.{IsNearest}
-use Rattle.route_laws.specs.OperationLaws.{GivenReaches, GivesHitless, GivesWhatItSays, KeepsHops, SyncIsLeast, SyncIsUnseen, SyncStays, ToldIsFewest}
+use Rattle.route_laws.specs.OperationLaws.{GivenReaches, GivesHitless, KeepsHops, SyncIsLeast, SyncIsUnseen, SyncStays, ToldIsFewest}
 use Rattle.route_laws.specs.LeastTables.{HasHops}
 use Rattle.route_laws.specs.Tables.{Route, IsTable, hop_at, with_route}
 use Rattle.route_laws.proofs.Insides.{hops_moved, least_too, empty_is_table}
@@ -87,15 +87,12 @@ made h T I true (Told rs N) g m = made_by I N g.installed (m.1 refl).hops.table
 made h T I false (Told rs N) g m = (refl, nothing_turns I)
 made h T I b (Sync N) g m = made_by I N g.installed m.0.hops.table
 
-made_last : (es : List Event) (e : Event) → MayAllCome start (es ++ e ∷ [])
+pub made_last : (es : List Event) (e : Event) → MayAllCome start (es ++ e ∷ [])
     → IsMade (after_events start es) e × IsHitless (after_events start es).installed (gives (after_events start es) e)
 made_last es e m =
     let t = before_last es e start m in
     let s = after_events start es in
     made (told None es) s.table s.installed s.kept e (holds es t.0) t.1
-
-pub gives_what_it_says : GivesWhatItSays
-gives_what_it_says es e m = (made_last es e m).0
 
 pub gives_hitless : GivesHitless
 gives_hitless es e m = (made_last es e m).1
