@@ -57,7 +57,7 @@ module _ (M : List Route) (r : Route) (n : Block) (m : IsTable M) (table : IsTab
   contained : IsInside n r.block → match_of (with_route M r) n ≡ Some (longer r (match_of M n))
   contained h =
       let best = best_of (r ∷ covering M n) in
-      let itself = λ (e : longer r (match_of M n) ≡ r). subst (λ (s : Route). In s (with_route M r)) (sym e) (put_itself Route.block M r) in
+      let itself : longer r (match_of M n) ≡ r → In (longer r (match_of M n)) (with_route M r) = λ e. rw e (put_itself Route.block M r) in
       match_from (with_route M r) table n is (longer r (match_of M n)) (record {
         member = Contains-from_In (with_route M r) (longer r (match_of M n)) (⊎_elim itself (λ l. ⊎_elim itself
             (λ i. put_other Route.block M r (longer r (match_of M n)) (in_covers M m n is (longer r (match_of M n)) i).0 (λ q. let w = ap Block.len q in omega (arith, l.1, w))) best.0)

@@ -289,7 +289,7 @@ comes_strict (Remove b) (Remove c) h k = strict b c h k
 
 module _ (M N : List Route) (old : IsTable M) (new : IsTable N) where
   pub each : Distinct (between M N)
-  each = Distinct-from_Rising Comes comes_strict (between M N) (Rising-joined Comes (installs (reverse (missing M N))) (removes (surplus M N))
+  each = Distinct-from_Rising Comes comes_strict (between M N) (Rising-joined Comes _ _
       (Rising-map Later Comes Install (λ r s h. h) (reverse (missing M N)) (falls (missing M N) (Rising-kept Sooner _ N (rising N new))))
       (Rising-map Sooner Comes (λ r. Remove (Route.block r)) (λ r s h. h) (surplus M N) (Rising-kept Sooner _ M (rising M old)))
       (λ o p i j. let t = In-map Install (reverse (missing M N)) o i in let u = In-map (λ r. Remove (Route.block r)) (surplus M N) p j in

@@ -56,7 +56,8 @@ module _ (pref : ℕ) where
 
   longer_same : (r : Route) (o : Option Route) → Some (longer (preferring r) (option_map preferring o)) ≡ option_map preferring (Some (longer r o))
   longer_same r None = refl
-  longer_same r (Some s) = elim (nat_lt r.block.len s.block.len) as (λ b. Some (cond b (preferring s) (preferring r)) ≡ Some (preferring (cond b s r)))
+  longer_same r (Some s) =
+      elim (nat_lt r.block.len s.block.len) as (λ b. Some (cond b (preferring s) (preferring r)) ≡ Some (preferring (cond b s r)))
       [ true ↦ refl | false ↦ refl ]
 
   longest_same : (rs : List Route) → longest (map preferring rs) ≡ option_map preferring (longest rs)

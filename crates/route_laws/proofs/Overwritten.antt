@@ -179,7 +179,8 @@ module _ (M : List Route) (m : IsTable M) (r : Route) (ok : IsBlock r.block) whe
   -- so if it inherits this hop or none from outside the table
   pub over_under : IsHop r.hop → (s : Option ℕ) (x : Address) → IsAddress x → hop_under s (overwritten M r) x ≡ cond (has_address r.block x) (number_of r.hop) (hop_under s M x)
   over_under hop s x a = ap (inherited s) (over_match hop x a)
-      ∙ (elim (has_address r.block x) as (λ c. inherited s (cond c (Some r) (match_of M (host x))) ≡ cond c (number_of r.hop) (hop_under s M x))
+      ∙ (elim (has_address r.block x)
+      as (λ c. inherited s (cond c (Some r) (match_of M (host x))) ≡ cond c (number_of r.hop) (hop_under s M x))
       [ true ↦ refl | false ↦ refl ])
 
   pub over_hops : IsHop r.hop → (x : Address) → IsAddress x → hop_at (overwritten M r) x ≡ cond (has_address r.block x) (number_of r.hop) (hop_at M x)

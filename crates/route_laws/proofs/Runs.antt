@@ -55,9 +55,9 @@ holds_event h T I b (Sync N) g m = kept h N (hops_moved (hop_at T) h g.hops N m.
 
 holds_after : (es : List Event) (h : Address → Option ℕ) (s : Installer) → Holds h s → MayAllCome s es → Holds (λ x. told (h x) es x) (after_events s es)
 holds_after [] h s g m = g
-holds_after (Have r ∷ es) h s g m = holds_after es h (after_event s (Have r)) (holds_event h s.table s.installed s.kept (Have r) g m.0) m.1
+holds_after (Have r ∷ es) h s g m = holds_after es h _ (holds_event h s.table s.installed s.kept (Have r) g m.0) m.1
 holds_after (Told rs N ∷ es) h s g m = holds_after es (λ x. hop_over (h x) rs x) (after_event s (Told rs N)) (holds_event h s.table s.installed s.kept (Told rs N) g m.0) m.1
-holds_after (Sync N ∷ es) h s g m = holds_after es h (after_event s (Sync N)) (holds_event h s.table s.installed s.kept (Sync N) g m.0) m.1
+holds_after (Sync N ∷ es) h s g m = holds_after es h _ (holds_event h s.table s.installed s.kept (Sync N) g m.0) m.1
 
 holds_start : Holds (λ x. None) start
 holds_start = record { table = empty_is_table; installed = empty_is_table; same = λ e. refl; hops = λ x a. refl }
@@ -109,7 +109,8 @@ pub sync_is_unseen : SyncIsUnseen
 sync_is_unseen es N m k x a i =
     let t = before_last es (Sync N) start m in
     ⊎_elim (λ e. e)
-    (λ e. e ∙ ap (λ T. hop_at T x) (made_last es (Sync N) m).0 ∙ t.1.0.hops.same x a ∙ ap (λ T. hop_at T x) (sym ((holds es t.0).same k)))
+    (λ e. e ∙ ap (λ T. hop_at T x) (made_last es (Sync N) m).0 ∙ t.1.0.hops.same x a
+    ∙ ap (λ T. hop_at T x) (sym ((holds es t.0).same k)))
     ((made_last es (Sync N) m).1.turns x a i i (omega arith))
 
 -- a table takes no operations to stay

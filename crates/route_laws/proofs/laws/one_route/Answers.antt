@@ -32,7 +32,7 @@ module _ (h : Address → Option ℕ) (k : ℕ) (only : (x : Address) → IsAddr
     where
       is_flat : IsFlat h (map piece bs)
       is_flat = record {
-        ascending = pairs_from_Rising Sooner _ (Rising-map IsBefore Sooner piece (λ b c l. l) bs (Rising-from_pairs _ bs m.ascending));
+        ascending = pairs_from_Rising Sooner _ (Rising-map IsBefore _ piece (λ b c l. l) bs (Rising-from_pairs _ bs m.ascending));
         exact = λ p. (
           (λ c.
               let t = In-map piece bs p (In-from_Contains (map piece bs) p c) in

@@ -44,7 +44,7 @@ module _ (M : List Route) (m : IsTable M) (n : Block) where
       (test_from_before r.block n (transitive r.block s.block n l (before_from_test s.block n b)))))))
       ∙ ap (filter later) e ∙ filter-append later xs (r ∷ ys)
       ∙ ap (λ zs. zs ++ filter later (r ∷ ys)) (none_kept later xs (λ s i. false_from_ne_true (later s) (λ f.
-      strict s.block r.block (rising_cross Sooner xs (r ∷ ys) up s r i (inl refl)) (before_from_test r.block s.block (and_parts _ _ f).1))))
+      strict s.block r.block (rising_cross Sooner xs (r ∷ ys) up s r i (inl refl)) (before_from_test _ _ (and_parts _ _ f).1))))
       ∙ cond-false (later r) (r ∷ filter later ys) (filter later ys) (false_from_ne_true (later r) (λ f.
       let l = before_from_test r.block r.block (and_parts _ _ f).1 in strict r.block r.block l l))
       ∙ all_kept later ys (λ s i.
