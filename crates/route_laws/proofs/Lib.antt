@@ -11,13 +11,10 @@ pub mod Bounds
 pub mod Changes
 pub mod Alterations
 pub mod Overwritten
-pub mod Paging
 pub mod FlatBounds
 pub mod Listed
 pub mod TableHops
 pub mod FlatTables
-pub mod Rebuilds
-pub mod OneRoute
 pub mod Insides
 pub mod Fewest
 pub mod Families
@@ -25,6 +22,4 @@ pub mod Turning
 pub mod Between
 pub mod Painted
 pub mod Inherited
-pub mod FewestOperations
-pub mod Nearest
 pub mod Runs

@@ -1,22 +1,27 @@
 -- Tables with several choices a network: what a change leaves, and the table of the best routes.
-use Rattle.std.proofs.Common.{◌≡◌, ◌≢◌, ◌<◌, ◌^◌, ◌⊎◌, inl, inr, ⊎_elim, Bool, false, not, cond, List, [], ◌∷◌, ◌++◌, Some, MatchOption, filter, map, refl, sym, ap, ◌∙◌, subst}
+use Rattle.std.proofs.Common.{◌≡◌, ◌≢◌, ◌<◌, ◌^◌, ◌⊎◌, inl, inr, ⊎_elim, Bool, not, cond, List, [], ◌∷◌, ◌++◌, Some, MatchOption, filter, map, refl, sym, ap, ◌∙◌, subst, ◌↔◌, Contains}
 use Rattle.std.proofs.lemmas.List.{map-append}
 use Rattle.std.proofs.lemmas.Bool.{cases_Bool, cond-false, cond-true}
 use Rattle.ipnet_addr.proofs.Members.{In}
 use Rattle.ipnet_addr.proofs.Ascending.{In-from_All, All-from_In, Rising, Rising-from_pairs, pairs_from_Rising, same_rising}
-use Rattle.ipnet_blocks.specs.Blocks.{Block, IsBlock, IsBefore, is_before, same_block}
+use Rattle.ipnet_blocks.specs.Blocks.{Block, IsBlock, IsBefore, is_before, same_block, HasAddress}
 use Rattle.ipnet_blocks.proofs.BlockLaws.{strict}
 use Rattle.ipnet_blocks.proofs.BlockTests.{same_from_test, test_from_same}
-use Rattle.route_choices.specs.Hops.{IsHop}
+use Rattle.route_choices.specs.Hops.{IsHop, number_of}
 use Rattle.route_choices.specs.declared.hop.Hop.{Hop}
 use Rattle.route_choices.specs.Choices.{Choice, beats, AreChoices, best, best_hop, is_one_too_many, choices_with, choices_without}
 use Rattle.route_choices.proofs.Kept.{filter_map_swap, In-map, map_In, In-from_filter, Rising-kept}
 use Rattle.route_choices.proofs.Preferences.{test_from_hop, test_from_apart}
 use Rattle.route_choices.proofs.ChoiceLists.{left_back, without_are, without_none, with_are, none_are}
-use Rattle.route_laws.specs.Tables.{Route, IsTable, with_route, without_block}
-use Rattle.route_laws.proofs.Ordered.{same_or_not, put_back, put_itself, put_other, put_rises, gone_back, gone_other, one_of_block, Rising-map, put_again, put_gone, no_members}
+use Rattle.route_laws.specs.Tables.{Route, IsTable, with_route, without_block, match_of, match_number, hop_at, Changed, Governed}
+use Rattle.route_laws.proofs.Matches.{same_or_not, put_back, put_itself, put_other, put_rises, gone_back, gone_other, one_of_block, Rising-map, put_again, put_gone, no_members}
 use Rattle.route_laws.proofs.Insides.{Sooner, Sound, rising as table_rises, table_of}
 use Rattle.route_laws.specs.Networks.{Stored, IsStoredTable, best_route, routes_of, choices_at, with_stored, without_stored, without_each, with_choices, with_choice, without_choice}
+use Rattle.ipnet_addr.specs.Addresses.{Address, IsAddress}
+use Rattle.ipnet_blocks.specs.Maximal.{IsMaximal, maximal_of}
+use Rattle.route_laws.specs.Changes.{changed}
+use Rattle.route_laws.proofs.Alterations.{IsChange, added_change, added_number, blocks_by, changed_by, left_change, lines_by}
+pub use Rattle.route_laws.proofs.Matches.{match_of_own}
 
 abbrev pub Earlier : Stored → Stored → Type 0
 Earlier s t = IsBefore s.block t.block
@@ -43,15 +48,9 @@ pub routes_with_choices : (T : List Stored) (b : Block) (cs : List Choice) → (
 routes_with_choices T b [] some = absurd (some refl)
 routes_with_choices T b (c ∷ cs) some = routes_with T (record { block = b; choices = c ∷ cs })
 
-pub routes_of_add : (T : List Stored) (b : Block) (c : Choice) → routes_of (with_choice T b c) ≡ with_route (routes_of T) (best_route (record { block = b; choices = choices_with (choices_at T b) c }))
-routes_of_add T b c = routes_with_choices T b (choices_with (choices_at T b) c) (with_some (choices_at T b) c)
-
-routes_left : (T : List Stored) (b : Block) (cs : List Choice) → MatchOption (best cs) (routes_of (with_choices T b cs) ≡ without_block (routes_of T) b) (λ d. routes_of (with_choices T b cs) ≡ with_route (routes_of T) (record { block = b; hop = d.hop; pref = d.pref }))
+pub routes_left : (T : List Stored) (b : Block) (cs : List Choice) → MatchOption (best cs) (routes_of (with_choices T b cs) ≡ without_block (routes_of T) b) (λ d. routes_of (with_choices T b cs) ≡ with_route (routes_of T) (record { block = b; hop = d.hop; pref = d.pref }))
 routes_left T b [] = routes_without T b
 routes_left T b (c ∷ cs) = routes_with T (record { block = b; choices = c ∷ cs })
-
-pub routes_of_del : (T : List Stored) (b : Block) (h : Hop) → MatchOption (best (choices_without (choices_at T b) h)) (routes_of (without_choice T b h) ≡ without_block (routes_of T) b) (λ d. routes_of (without_choice T b h) ≡ with_route (routes_of T) (record { block = b; hop = d.hop; pref = d.pref }))
-routes_of_del T b h = routes_left T b (choices_without (choices_at T b) h)
 
 -- ---- a table stays a table
 
@@ -132,9 +131,6 @@ module _ (T : List Stored) (ok : IsStoredTable T) where
       (λ t. subst (λ (s : Stored). In s T) (λ i. record { block = t.2 i; choices = sym t.3 i }) t.1)
       (λ t. absurd (some t.1))
       (at_cases T b)
-
-  pub add_is : (b : Block) (c : Choice) → IsBlock b → IsHop c.hop → c.pref < 2 ^ 16 → is_one_too_many (choices_at T b) c.hop ≡ false → IsStoredTable (with_choice T b c)
-  add_is b c okb hop pref e = with_choices_is T ok b (choices_with (choices_at T b) c) okb (with_are (choices_at T b) (at_are b) c hop pref e)
 
   pub del_is : (b : Block) (h : Hop) → IsBlock b → IsStoredTable (without_choice T b h)
   del_is b h okb = with_choices_is T ok b (choices_without (choices_at T b) h) okb (without_are (choices_at T b) (at_are b) h)
@@ -237,30 +233,64 @@ restored T b c ok okb hop pref none =
 
 -- ---- a `del` of each choice
 
-each_is : (T : List Stored) (b : Block) (cs : List Choice) → IsStoredTable T → IsBlock b → IsStoredTable (without_each T b cs)
-each_is T b [] ok okb = ok
-each_is T b (c ∷ cs) ok okb = each_is (without_choice T b c.hop) b cs (del_is T ok b c.hop okb) okb
-
--- what is left at the block is of other hops
-each_left : (T : List Stored) (b : Block) (cs : List Choice) → IsStoredTable T → IsBlock b → (d : Choice) → In d (choices_at (without_each T b cs) b) → In d (choices_at T b) × ((e : Choice) → In e cs → d.hop ≢ e.hop)
-each_left T b [] ok okb d i = (i, λ e j. absurd j)
-each_left T b (c ∷ cs) ok okb d i =
-    let t = each_left (without_choice T b c.hop) b cs (del_is T ok b c.hop okb) okb d i in
-    let k = at_changed T ok b okb (choices_without (choices_at T b) c.hop) (without_are (choices_at T b) (at_are T ok b) c.hop) in
-    let u = left_back (choices_at T b) c.hop d (subst (λ (ds : List Choice). In d ds) k t.0) in
-    (u.0, λ e j. ⊎_elim (λ q f. u.1 (f ∙ ap Choice.hop q)) (λ m. t.1 e m) j)
-
-each_other : (T : List Stored) (b : Block) (cs : List Choice) → IsStoredTable T → IsBlock b → (d : Block) → (d ≡ b → ⊥) → choices_at (without_each T b cs) d ≡ choices_at T d
-each_other T b [] ok okb d apart = refl
-each_other T b (c ∷ cs) ok okb d apart =
-    each_other (without_choice T b c.hop) b cs (del_is T ok b c.hop okb) okb d apart
-    ∙ at_other T ok b okb (choices_without (choices_at T b) c.hop) (without_are (choices_at T b) (at_are T ok b) c.hop) d apart
+-- after it: what is left at the block is of other hops, and other blocks have their choices
+each_gone : (T : List Stored) (b : Block) (cs : List Choice) → IsStoredTable T → IsBlock b → let N = without_each T b cs in
+    IsStoredTable N × ((d : Choice) → In d (choices_at N b) → In d (choices_at T b) × ((e : Choice) → In e cs → d.hop ≢ e.hop))
+    × ((d : Block) → (d ≡ b → ⊥) → choices_at N d ≡ choices_at T d)
+each_gone T b [] ok okb = (ok, (λ d i. (i, λ e j. absurd j)), λ d apart. refl)
+each_gone T b (c ∷ cs) ok okb =
+    let t = each_gone (without_choice T b c.hop) b cs (del_is T ok b c.hop okb) okb in
+    let are = without_are (choices_at T b) (at_are T ok b) c.hop in
+    let k = at_changed T ok b okb (choices_without (choices_at T b) c.hop) are in (
+      t.0,
+      (λ d i.
+          let s = t.1 d i in
+          let u = left_back (choices_at T b) c.hop d (subst (λ (ds : List Choice). In d ds) k s.0) in
+          (u.0, λ e j. ⊎_elim (λ q f. u.1 (f ∙ ap Choice.hop q)) (λ m. s.1 e m) j)),
+      λ d apart. t.2 d apart ∙ at_other T ok b okb (choices_without (choices_at T b) c.hop) are d apart,
+    )
 
 pub emptied : (T : List Stored) (b : Block) → IsStoredTable T → IsBlock b → without_each T b (choices_at T b) ≡ without_stored T b
-emptied T b ok okb = same_tables (without_each T b (choices_at T b)) (without_stored T b) (each_is T b (choices_at T b) ok okb) (without_is T ok b)
+emptied T b ok okb =
+    let g = each_gone T b (choices_at T b) ok okb in
+    same_tables (without_each T b (choices_at T b)) (without_stored T b) g.0 (without_is T ok b)
     (λ d. ⊎_elim
     (λ e. ap (choices_at (without_each T b (choices_at T b))) e
-    ∙ no_members (choices_at (without_each T b (choices_at T b)) b) (λ c i. let t = each_left T b (choices_at T b) ok okb c i in t.1 c t.0 refl)
+    ∙ no_members (choices_at (without_each T b (choices_at T b)) b) (λ c i. let t = g.1 c i in t.1 c t.0 refl)
     ∙ sym (at_changed T ok b okb [] none_are) ∙ ap (choices_at (without_stored T b)) (sym e))
-    (λ apart. each_other T b (choices_at T b) ok okb d apart ∙ sym (at_other T ok b okb [] none_are d apart))
+    (λ apart. g.2 d apart ∙ sym (at_other T ok b okb [] none_are d apart))
     (same_or_not d b))
+
+-- ---- what a change of the choices of a block changes, by the laws on one route more or less
+
+pub match_of_choices : (T : List Stored) (b : Block) (c : Choice) → IsStoredTable T → best (choices_at T b) ≡ Some c → match_of (routes_of T) b ≡ Some (record { block = b; hop = c.hop; pref = c.pref })
+match_of_choices T b c ok e = match_of_own (routes_of T) (routes_are_table T ok) (record { block = b; hop = c.hop; pref = c.pref })
+    (subst (λ (r : Route). In r (routes_of T)) (same_best b (choices_at T b) (c ∷ []) e) (map_In best_route T (record { block = b; choices = choices_at T b }) (at_some T ok b (λ q. let f = sym e ∙ ap best q in cc))))
+
+module _ (T : List Stored) (ok : IsStoredTable T) (b : Block) (okb : IsBlock b) where
+  before : IsTable (routes_of T)
+  before = routes_are_table T ok
+
+  -- the number at the block is that of the first choice
+  pub number_of_choices : (cs : List Choice) → AreChoices cs → (cs ≡ [] → ⊥) → number_of (best_hop cs) ≡ match_number (match_of (routes_of (with_choices T b cs)) b)
+  number_of_choices [] are some = absurd (some refl)
+  number_of_choices (c ∷ cs) are some = sym (ap (λ N. match_number (match_of N b)) (routes_with T (record { block = b; choices = c ∷ cs }))
+      ∙ added_number (routes_of T) before (record { block = b; hop = c.hop; pref = c.pref }) okb (best_is_hop (c ∷ cs) are))
+
+  pub is_change : (cs : List Choice) → AreChoices cs → IsChange (routes_of T) (routes_of (with_choices T b cs)) b
+  is_change [] are = subst (λ (N : List Route). IsChange (routes_of T) N b) (sym (routes_without T b)) (left_change (routes_of T) before b okb)
+  is_change (c ∷ cs) are = subst (λ (N : List Route). IsChange (routes_of T) N b) (sym (routes_with T (record { block = b; choices = c ∷ cs })))
+      (added_change (routes_of T) before (record { block = b; hop = c.hop; pref = c.pref }) okb (best_is_hop (c ∷ cs) are))
+
+  pub changed_by_choices : (cs : List Choice) → AreChoices cs → (x : Address) → IsAddress x →
+      Changed (routes_of T) (routes_of (with_choices T b cs)) x ↔ (Governed (routes_of T) b x × (match_number (match_of (routes_of T) b) ≢ match_number (match_of (routes_of (with_choices T b cs)) b)))
+  changed_by_choices cs are = changed_by (routes_of T) _ b before okb (is_change cs are) _ refl
+
+  pub blocks_of_choices : (cs : List Choice) (bs : List Block) → AreChoices cs → IsMaximal (Governed (routes_of T) b) bs →
+      ((match_number (match_of (routes_of T) b) ≢ match_number (match_of (routes_of (with_choices T b cs)) b)) → IsMaximal (Changed (routes_of T) (routes_of (with_choices T b cs))) bs)
+      × (match_number (match_of (routes_of T) b) ≡ match_number (match_of (routes_of (with_choices T b cs)) b) → IsMaximal (Changed (routes_of T) (routes_of (with_choices T b cs))) [])
+  blocks_of_choices cs bs are = blocks_by (routes_of T) _ b before okb (is_change cs are) _ refl bs
+
+  pub choices_have_one_hop : (cs : List Choice) → AreChoices cs → (d : Block) → Contains (maximal_of (changed (routes_of T) (routes_of (with_choices T b cs)))) d → (x : Address) → HasAddress d x →
+      hop_at (routes_of (with_choices T b cs)) x ≡ match_number (match_of (routes_of (with_choices T b cs)) b)
+  choices_have_one_hop cs are = lines_by (routes_of T) _ b before okb (is_change cs are) _ refl

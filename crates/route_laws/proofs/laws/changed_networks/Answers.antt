@@ -1,4 +1,4 @@
-use Rattle.route_laws.proofs.ChoiceChanges.{changed_by_choices, blocks_of_choices, choices_have_one_hop}
+use Rattle.route_laws.proofs.Networks.{changed_by_choices, blocks_of_choices, choices_have_one_hop}
 use Rattle.route_laws.proofs.laws.changed_networks.Goals as goal
 
 pub returns : goal.returns

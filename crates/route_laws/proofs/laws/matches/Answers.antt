@@ -1,6 +1,6 @@
-use Rattle.route_laws.proofs.laws.matches.Goals as goal
 use Rattle.route_laws.proofs.Matches.{cover_ascends, match_meets, match_from, governed_match}
-use Rattle.route_laws.proofs.Bounds.{governed_bound}
+use Rattle.route_laws.proofs.Flats.{governed_bound}
+use Rattle.route_laws.proofs.laws.matches.Goals as goal
 
 pub returns : goal.returns
 returns c = record {

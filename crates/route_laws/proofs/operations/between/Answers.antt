@@ -1,5 +1,4 @@
-use Rattle.route_laws.proofs.Between.{between_hitless, between_reaches}
-use Rattle.route_laws.proofs.FewestOperations.{fewest}
+use Rattle.route_laws.proofs.Between.{between_hitless, between_reaches, fewest}
 use Rattle.route_laws.proofs.operations.between.Goals as goal
 
 pub returns : goal.returns
