@@ -186,10 +186,11 @@ pub seen_table : (a b T : List Stored) → IsFamilyTable Ipv4 a × IsFamilyTable
 seen_table a b T sides is = subst (λ T. IsTable (routes_of T)) is (is_table a b sides)
 
 -- the best routes of a side are of its family
+pub routes_in_family : (f : Family) (T : List Stored) → IsFamilyTable f T → (r : Route) → In r (routes_of T) → r.block.family ≡ f
+routes_in_family f T side r i = let t = In-map best_route T r i in ap (λ (u : Route). u.block.family) t.2 ∙ In-from_All (λ (s : Stored). s.block.family ≡ f) T side.family t.0 t.1
+
 routes_of_side : (f : Family) (T : List Stored) (rs : List Route) → IsFamilyTable f T → rs ≡ routes_of T → All (λ r. r.block.family ≡ f) rs
-routes_of_side f T rs side e = subst (λ (rs : List Route). All (λ r. r.block.family ≡ f) rs) (sym e)
-    (All-from_In (λ (r : Route). r.block.family ≡ f) (routes_of T) (λ r i. let t = In-map best_route T r i in
-    ap (λ (u : Route). u.block.family) t.2 ∙ In-from_All (λ (s : Stored). s.block.family ≡ f) T side.family t.0 t.1))
+routes_of_side f T rs side e = All-from_In (λ (r : Route). r.block.family ≡ f) rs (λ r i. routes_in_family f T side r (subst (λ xs. In r xs) e i))
 
 -- the routes of both sides
 pub both_families : (a b T : List Stored) → IsFamilyTable Ipv4 a × IsFamilyTable Ipv6 b → a ++ b ≡ T → (v4 v6 : List Route) → v4 ≡ routes_of a → v6 ≡ routes_of b → AreFamilies (routes_of T) v4 v6

@@ -23,8 +23,8 @@ use Rattle.route_table.specs.InnerLeast.{entry_of, entries_of}
 use Rattle.route_table.specs.InnerFamilyTables.{block_at}
 use Rattle.route_table.specs.InnerUpdates.{installed_route, routes_in}
 use Rattle.route_table.proofs.FamilyBits.{AllOf, Blocks, lengths, rising_entries}
-use Rattle.route_table.proofs.PartBits.{bits_of, held_bits, part, part_all, same_entry, string-true}
-use Rattle.route_table.proofs.Strings.{block_at_is_block, block_of_string, string_of_block}
+use Rattle.route_table.proofs.PartBits.{bits_of, held_bits, part, part_all, same_entry}
+use Rattle.route_table.proofs.Strings.{block_at_is_block, block_of_string, string-true, string_of_block}
 
 -- maps that agree on the members
 module _ (f : Family) where

@@ -10,7 +10,6 @@ use Rattle.ipnet_addr.proofs.Families.{test_from_family}
 use Rattle.ipnet_blocks.specs.Blocks.{Block, IsBlock, is_before, is_inside, bit_string}
 use Rattle.ipnet_blocks.proofs.BlockTests.{before_from_test, test_from_before}
 use Rattle.ipnet_blocks.proofs.Order.{order_of_strings}
-use Rattle.ipnet_blocks.proofs.Strings.{begins_from_inside, inside_from_begins}
 use Rattle.trie_core.specs.Nodes.{BitMap}
 use Rattle.trie_core.specs.Bits.{is_from}
 use Rattle.ipnet_blocks.specs.BitStrings.{begins, bits_cmp}
@@ -18,13 +17,12 @@ use Rattle.route_choices.specs.Choices.{Choice}
 use Rattle.route_choices.proofs.Kept.{In-from_filter, filter_map_swap, same_kept}
 use Rattle.route_laws.specs.Tables.{Route, covering, routes_inside}
 use Rattle.route_table.specs.InnerFamilyTables.{route_at, stored_in, block_at, IsStored}
-use Rattle.route_laws.specs.Networks.{routes_of}
+use Rattle.route_laws.specs.Networks.{Stored, routes_of}
 use Rattle.route_table.specs.InnerEntries.{KeysUpTo}
 use Rattle.route_laws.specs.Onwards.{routes_from, routes_after}
-use Rattle.route_laws.proofs.Matches.{bools_same, inside_from_test, test_from_inside}
-use Rattle.route_table.proofs.Strings.{string_of_block, block_at_is_block}
-use Rattle.route_table.proofs.Entries.{get_of}
-use Rattle.route_table.proofs.FamilyMap.{routes_at}
+use Rattle.route_laws.proofs.Matches.{bools_same}
+use Rattle.route_table.proofs.Strings.{string_of_block, block_at_is_block, inside_is}
+use Rattle.route_table.proofs.FamilyMap.{get_of, routes_at}
 
 -- ---- the order of blocks, as a test of keys
 
@@ -51,6 +49,9 @@ listed_keys f m ok p es e = All-from_In (λ (d : List Bool × List Choice). leng
 pub all_keys : (f : Family) (m : BitMap (List Choice)) → IsStored f m → (es : List (List Bool × List Choice)) → es ≡ entries m → KeysUpTo (width f) es
 all_keys f m ok es e = All-from_In (λ (d : List Bool × List Choice). length d.0 ≤ width f) es (λ d i. ok.within d.0 d.1 (get_of m d.0 d.1 (subst (λ xs. In d xs) e i)))
 
+pub all_routes : (f : Family) (m : BitMap (List Choice)) (T : List Stored) → stored_in f m ≡ T → (es : List (List Bool × List Choice)) → es ≡ entries m → map (route_at f) es ≡ routes_of T
+all_routes f m T is es e = ap (map (route_at f)) e ∙ routes_at f (entries m) ∙ ap routes_of is
+
 module _ (n : Block) (okn : IsBlock n) (m : BitMap (List Choice)) (ok : IsStored n.family m) where
   abbrev key_block : List Bool × List Choice → Block
   key_block e = block_at n.family e.0
@@ -61,16 +62,12 @@ module _ (n : Block) (okn : IsBlock n) (m : BitMap (List Choice)) (ok : IsStored
   -- the routes inside n are the entries whose keys n's string begins
   pub inside_are : routes_inside (routes_in n.family (entries m)) n ≡ map (route_at n.family) (filter (λ e. begins (bit_string n) e.0) (entries m))
   inside_are = filter_routes n.family (λ r. is_inside r.block n) (λ e. begins (bit_string n) e.0) (entries m)
-      (λ e i. bools_same (is_inside (key_block e) n) (begins (bit_string n) e.0)
-      (λ t. subst (λ s. begins (bit_string n) s ≡ true) (string_of_block n.family e.0) (begins_from_inside (key_block e) n (okb e i) okn (inside_from_test (key_block e) n (okb e i) okn t)))
-      (λ t. test_from_inside (key_block e) n (okb e i) okn (inside_from_begins (key_block e) n (okb e i) okn refl (subst (λ s. begins (bit_string n) s ≡ true) (sym (string_of_block n.family e.0)) t))))
+      (λ e i. inside_is (key_block e) n (okb e i) okn refl ∙ ap (begins (bit_string n)) (string_of_block n.family e.0))
 
   -- the routes that contain n are the entries whose keys begin n's string
   pub covering_are : covering (routes_in n.family (entries m)) n ≡ map (route_at n.family) (filter (λ e. begins e.0 (bit_string n)) (entries m))
   covering_are = filter_routes n.family (λ r. is_inside n r.block) (λ e. begins e.0 (bit_string n)) (entries m)
-      (λ e i. bools_same (is_inside n (key_block e)) (begins e.0 (bit_string n))
-      (λ t. subst (λ s. begins s (bit_string n) ≡ true) (string_of_block n.family e.0) (begins_from_inside n (key_block e) okn (okb e i) (inside_from_test n (key_block e) okn (okb e i) t)))
-      (λ t. test_from_inside n (key_block e) okn (okb e i) (inside_from_begins n (key_block e) okn (okb e i) refl (subst (λ s. begins s (bit_string n) ≡ true) (sym (string_of_block n.family e.0)) t))))
+      (λ e i. inside_is n (key_block e) okn (okb e i) refl ∙ ap (λ s. begins s (bit_string n)) (string_of_block n.family e.0))
 
   -- the routes from n on, or after it, are the entries with such keys
   pub onwards_are : (inclusive : Bool) → cond inclusive (routes_from (routes_in n.family (entries m)) n) (routes_after (routes_in n.family (entries m)) n) ≡ map (route_at n.family) (filter (λ e. is_from (bit_string n) inclusive e.0) (entries m))
@@ -80,12 +77,12 @@ module _ (n : Block) (okn : IsBlock n) (m : BitMap (List Choice)) (ok : IsStored
       (λ e i. ap (λ b. b && is_before n (key_block e)) (test_from_family n.family n.family refl) ∙ before_is n (key_block e) okn (okb e i) refl ∙ ap (λ s. is_lt (bits_cmp (bit_string n) s)) (string_of_block n.family e.0))
 
   -- what walks of the trie list, as parts of the side
-  module _ (s : List Bool) (same : s ≡ bit_string n) (es : List (List Bool × List Choice)) where
-    pub listed : es ≡ where_key bits_cmp (begins s) (entries m) → map (route_at n.family) es ≡ routes_inside (routes_of (stored_in n.family m)) n
-    listed h = ap (map (route_at n.family)) (h ∙ ap (λ t. filter (λ (x : List Bool × List Choice). begins t x.0) (entries m)) same) ∙ sym inside_are ∙ ap (λ M. routes_inside M n) (routes_at n.family (entries m))
+  module _ (T : List Stored) (is : stored_in n.family m ≡ T) (s : List Bool) (same : s ≡ bit_string n) (es : List (List Bool × List Choice)) where
+    pub listed : es ≡ where_key bits_cmp (begins s) (entries m) → map (route_at n.family) es ≡ routes_inside (routes_of T) n
+    listed h = ap (map (route_at n.family)) (h ∙ ap (λ t. filter (λ (x : List Bool × List Choice). begins t x.0) (entries m)) same) ∙ sym inside_are ∙ ap (λ M. routes_inside M n) (routes_at n.family (entries m) ∙ ap routes_of is)
 
-    pub covered : es ≡ where_key bits_cmp (λ k. begins k s) (entries m) → map (route_at n.family) es ≡ covering (routes_of (stored_in n.family m)) n
-    covered h = ap (map (route_at n.family)) (h ∙ ap (λ t. filter (λ (x : List Bool × List Choice). begins x.0 t) (entries m)) same) ∙ sym covering_are ∙ ap (λ M. covering M n) (routes_at n.family (entries m))
+    pub covered : es ≡ where_key bits_cmp (λ k. begins k s) (entries m) → map (route_at n.family) es ≡ covering (routes_of T) n
+    covered h = ap (map (route_at n.family)) (h ∙ ap (λ t. filter (λ (x : List Bool × List Choice). begins x.0 t) (entries m)) same) ∙ sym covering_are ∙ ap (λ M. covering M n) (routes_at n.family (entries m) ∙ ap routes_of is)
 
-    pub walked : (inclusive : Bool) → es ≡ where_key bits_cmp (is_from s inclusive) (entries m) → map (route_at n.family) es ≡ cond inclusive (routes_from (routes_of (stored_in n.family m)) n) (routes_after (routes_of (stored_in n.family m)) n)
-    walked inclusive h = ap (map (route_at n.family)) (h ∙ ap (λ t. filter (λ (x : List Bool × List Choice). is_from t inclusive x.0) (entries m)) same) ∙ sym (onwards_are inclusive) ∙ ap (λ M. cond inclusive (routes_from M n) (routes_after M n)) (routes_at n.family (entries m))
+    pub walked : (inclusive : Bool) → es ≡ where_key bits_cmp (is_from s inclusive) (entries m) → map (route_at n.family) es ≡ cond inclusive (routes_from (routes_of T) n) (routes_after (routes_of T) n)
+    walked inclusive h = ap (map (route_at n.family)) (h ∙ ap (λ t. filter (λ (x : List Bool × List Choice). is_from t inclusive x.0) (entries m)) same) ∙ sym (onwards_are inclusive) ∙ ap (λ M. cond inclusive (routes_from M n) (routes_after M n)) (routes_at n.family (entries m) ∙ ap routes_of is)
