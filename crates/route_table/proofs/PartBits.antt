@@ -1,5 +1,5 @@
 -- The parts of a table in the two families, as bit strings: what they store and hold, and how far two tables are apart.
-use Rattle.std.proofs.Common.{◌≡◌, ℕ, ◌+◌, ◌≤◌, Bool, true, false, cond, not, ◌&&◌, List, [], ◌∷◌, ◌++◌, filter, length, Option, refl, sym, ap, ap₂, ◌∙◌, subst, append-nil, length-append, reverse, arith}
+use Rattle.std.proofs.Common.{◌≡◌, ℕ, ◌+◌, ◌≤◌, Bool, true, false, cond, not, ◌&&◌, All, List, [], ◌∷◌, ◌++◌, filter, length, Option, refl, sym, ap, ap₂, ◌∙◌, subst, append-nil, length-append, reverse, arith}
 use Rattle.std.proofs.lemmas.Bool.{and_from, false_from_ne_true}
 use Rattle.std.proofs.lemmas.List.{length-map, length-reverse}
 use Rattle.std.proofs.lemmas.List.Elements.{filter-append}

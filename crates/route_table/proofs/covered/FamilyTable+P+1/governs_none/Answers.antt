@@ -1,4 +1,4 @@
-use Rattle.std.proofs.Common.{◌+◌, ◌≤◌, ◌∙◌, List, max, sym, ap, arith, subst}
+use Rattle.std.proofs.Common.{◌≤◌, ◌∙◌, List, sym, ap, arith, subst}
 use Rattle.ipnet_blocks.specs.Blocks.{first, last}
 use Rattle.ipnet_blocks.specs.Networks.{block_of}
 use Rattle.ipnet_addr.proofs.Ascending.{All-from_In}

@@ -1,4 +1,4 @@
-use Rattle.std.proofs.Common.{◌≡◌, ◌∙◌, ap}
+use Rattle.std.proofs.Common.{◌∙◌, ap}
 use Rattle.std.specs.FinMap.{remove}
 use Rattle.ipnet_blocks.specs.Networks.{block_of}
 use Rattle.route_laws.specs.Networks.{without_stored}

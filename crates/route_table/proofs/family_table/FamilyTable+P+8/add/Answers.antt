@@ -1,4 +1,4 @@
-use Rattle.std.proofs.Common.{◌∙◌, ◌∷◌, List, [], true≢false, sym, ap}
+use Rattle.std.proofs.Common.{◌∙◌, ◌∷◌, [], true≢false, sym, ap}
 use Rattle.ipnet_blocks.specs.Networks.{block_of}
 use Rattle.route_choices.specs.Choices.{Choice, choices_with, is_one_too_many}
 use Rattle.route_choices.proofs.ChoiceLists.{one_is}

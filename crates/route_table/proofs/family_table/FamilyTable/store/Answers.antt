@@ -1,4 +1,4 @@
-use Rattle.std.proofs.Common.{◌≡◌, [], ◌∷◌, ◌++◌, List, Bool, ℕ, ◌+◌, ◌*◌, ◌<◌, ◌≤◌, refl, ◌∙◌, sym, ap, subst, arith}
+use Rattle.std.proofs.Common.{◌≡◌, ◌∷◌, ◌++◌, List, Bool, ℕ, ◌+◌, ◌*◌, ◌<◌, ◌≤◌, refl, ◌∙◌, sym, ap, subst, arith}
 use prog.Memory.{up}
 use Rattle.std.specs.FinMap.{get, get-empty, insert, empty}
 use Rattle.ipnet_blocks.specs.BitStrings.{bits_cmp}

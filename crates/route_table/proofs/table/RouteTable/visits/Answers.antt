@@ -1,4 +1,4 @@
-use Rattle.std.proofs.Common.{◌∙◌, ap, sym}
+use Rattle.std.proofs.Common.{◌∙◌, sym}
 use Rattle.ipnet_blocks.specs.Blocks.{bit_string}
 use Rattle.ipnet.specs.IpNets.{block}
 use Rattle.trie_core.specs.Count.{visit_count}
