@@ -50,11 +50,9 @@ listed f (e ∷ es) = let p = string_of_block f e.0 in let q = listed f es in λ
 
 at_found : (es : List (List Bool × List Choice)) (s : List Bool) → at (map entry_in es) s ≡ option_map hop_in (find bits_cmp s es)
 at_found [] s = refl
-at_found (d ∷ es) s = ap (λ c. cond c (Some (hop_in d.1)) (at (map entry_in es) s)) (tests_agree d.0 s) ∙ go (same s d.0) (at_found es s)
-  where
-    go : (c : Bool) → at (map entry_in es) s ≡ option_map hop_in (find bits_cmp s es) → cond c (Some (hop_in d.1)) (at (map entry_in es) s) ≡ option_map hop_in (cond c (Some d.1) (find bits_cmp s es))
-    go true e = refl
-    go false e = e
+at_found (d ∷ es) s =
+    ap (λ c. cond c (Some (hop_in d.1)) (at (map entry_in es) s)) (tests_agree d.0 s)
+    ∙ elim (same s d.0) as (λ c. cond c (Some (hop_in d.1)) (at (map entry_in es) s) ≡ option_map hop_in (cond c (Some d.1) (find bits_cmp s es))) [ true ↦ refl | false ↦ at_found es s ]
 
 module _ (s : List Bool) where
   none_inside : (es : List (List Bool × List Choice)) → ((e : List Bool × List Choice) → In e es → begins s e.0 ≡ true → e.0 ≡ s) → NoneInside (map entry_in es) s
@@ -161,11 +159,8 @@ module _ (c : List Bool) (k : Option ℕ) (b : List Bool) where
   around_none h = sym (by_shorter ∙ ap (λ v. hop_if (longest_route (cond v one []) b)) (le-ltb _ _ h))
 
   pub around_told : length c < length b → cond (begins c b) (Some k) None ≡ around b None one
-  around_told h = sym (by_shorter ∙ ap (λ v. hop_if (longest_route (cond v one []) b)) (lt-ltb _ _ h) ∙ go (begins c b))
-    where
-      go : (v : Bool) → hop_if (cond v (Some (c, k)) None) ≡ cond v (Some k) None
-      go true = refl
-      go false = refl
+  around_told h = sym (by_shorter ∙ ap (λ v. hop_if (longest_route (cond v one []) b)) (lt-ltb _ _ h)
+      ∙ elim (begins c b) as (λ v. hop_if (cond v (Some (c, k)) None) ≡ cond v (Some k) None) [ true ↦ refl | false ↦ refl ])
 
   -- nothing is strictly inside a block that is not shorter
   pub leaf_long : length c ≤ length b → without_own (inner b one) ≡ []

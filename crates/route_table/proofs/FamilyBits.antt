@@ -33,11 +33,7 @@ longer_entry : (r : Route) (m : Option Route) → bits.longer_route (entry_of r)
 longer_entry r None = refl
 longer_entry r (Some s) =
     rw (length-digits r.block.len r.block.quotient, length-digits s.block.len s.block.quotient)
-    (go (nat_lt r.block.len s.block.len))
-  where
-    go : (c : Bool) → cond c (Some (entry_of s)) (Some (entry_of r)) ≡ Some (entry_of (cond c s r))
-    go true = refl
-    go false = refl
+    (elim (nat_lt r.block.len s.block.len) as (λ c. cond c (Some (entry_of s)) (Some (entry_of r)) ≡ Some (entry_of (cond c s r))) [ true ↦ refl | false ↦ refl ])
 
 -- the longest match of a block
 pub match_entry : (n : Block) → IsBlock n → (M : List Route) → ((r : Route) → In r M → IsBlock r.block × (r.block.family ≡ n.family))

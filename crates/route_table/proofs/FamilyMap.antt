@@ -5,11 +5,11 @@ use Rattle.ipnet_addr.specs.Addresses.{Family, width}
 use Rattle.ipnet_blocks.specs.BitStrings.{bits_cmp, begins}
 use Rattle.ipnet_blocks.specs.Blocks.{IsBlock, IsBefore, bit_string}
 use Rattle.ipnet_addr.proofs.Members.{In}
-use Rattle.ipnet_addr.proofs.Ascending.{Rising, All-from_In, pairs_from_Rising, same_rising, Rising-from_pairs}
+use Rattle.ipnet_addr.proofs.Ascending.{Rising, All-from_In, same_rising, Rising-from_pairs}
 use Rattle.ipnet_blocks.proofs.BlockLaws.{strict}
 use Rattle.ipnet_blocks.proofs.Order.{order_of_strings}
 use Rattle.trie_core.specs.Nodes.{BitMap}
-use Rattle.route_choices.specs.Choices.{Choice, AreChoices}
+use Rattle.route_choices.specs.Choices.{Choice}
 use Rattle.route_choices.proofs.Kept.{In-map, map_In}
 use Rattle.route_table.specs.InnerFamilyTables.{block_at, route_at, stored_at, stored_in, IsStored, IsFamilyTable}
 use Rattle.route_laws.specs.Networks.{Stored, IsStoredTable, routes_of}
@@ -22,6 +22,7 @@ use Rattle.ipnet_blocks.proofs.BitStrings.{begins_on}
 use Rattle.trie_core.specs.Inside.{NothingInside}
 use Rattle.trie_core.proofs.Leaves.{goes_on}
 use Rattle.trie_core.proofs.Strings.{bits_same, bits_total, same, same-Decides, same-refl, same_false}
+use Rattle.route_laws.proofs.Networks.{stored_table_of}
 
 apart : (s : List Bool) → bits_cmp s s ≡ Less → ⊥
 apart s e = let f = sym (ap is_eq e) ∙ same-refl s in cc
@@ -131,12 +132,7 @@ module _ (f : Family) (m : BitMap (List Choice)) (ok : IsStored f m) where
   -- the list of networks is a table of the family
   pub is_side : IsFamilyTable f (stored_in f m)
   is_side = record {
-    table = record {
-      blocks = All-from_In (λ s. IsBlock s.block) (stored_in f m) (λ s i. (has_stored s i).block);
-      some = All-from_In (λ s. s.choices ≡ [] → ⊥) (stored_in f m) (λ s i. ok.some (bit_string s.block) s.choices (has_stored s i).stored);
-      choices = All-from_In (λ s. AreChoices s.choices) (stored_in f m) (λ s i. ok.choices (bit_string s.block) s.choices (has_stored s i).stored);
-      ascending = pairs_from_Rising (Earlier Stored.block) (stored_in f m) side_rises;
-    };
+    table = stored_table_of (stored_in f m) (λ s i. let h = has_stored s i in (h.block, ok.some (bit_string s.block) s.choices h.stored, ok.choices (bit_string s.block) s.choices h.stored)) side_rises;
     family = All-from_In (λ s. s.block.family ≡ f) (stored_in f m) (λ s i. (has_stored s i).family);
   }
 
@@ -149,12 +145,7 @@ module _ (f : Family) (m : BitMap (List Choice)) (ok : IsStored f m) where
       (λ s i. to s (has_stored s i)) (λ s i. in_side s (from s i))
 
 pub no_networks : IsStoredTable []
-no_networks = record {
-  blocks = All-from_In (λ s. IsBlock s.block) [] (λ s i. absurd i);
-  some = All-from_In (λ s. s.choices ≡ [] → ⊥) [] (λ s i. absurd i);
-  choices = All-from_In (λ s. AreChoices s.choices) [] (λ s i. absurd i);
-  ascending = pairs_from_Rising (Earlier Stored.block) [] tt;
-}
+no_networks = stored_table_of [] (λ s i. absurd i) tt
 
 module _ (f : Family) (m : BitMap (List Choice)) (e : m ≡ empty) where
   no_entry : (s : List Bool) (cs : List Choice) → get m s ≡ Some cs → ⊥

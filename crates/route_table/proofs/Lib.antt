@@ -5,11 +5,9 @@ pub mod Searches
 pub mod Stores
 pub mod Asked
 pub mod Walked
-pub mod Parts
 pub mod Gaps
 pub mod Governings
 pub mod FamilyTables
-pub mod Sides
 pub mod PaintedRuns
 pub mod Openings
 pub mod Painted

@@ -1,5 +1,5 @@
 -- Changes of a side's map, as changes of its networks.
-use Rattle.std.proofs.Common.{◌≡◌, ◌≤◌, ◌⊎◌, inl, inr, ⊎_elim, Bool, true, false, cond, not, List, [], ◌∷◌, filter, length, map, Option, Some, None, IsSome, unwrap_or, refl, sym, ap, ◌∙◌, subst, ℕ, take, take_all, arith}
+use Rattle.std.proofs.Common.{◌≡◌, ◌≤◌, ◌⊎◌, inl, inr, ⊎_elim, Bool, true, false, cond, not, List, [], ◌∷◌, filter, length, map, Option, Some, None, IsSome, refl, sym, ap, ◌∙◌, subst, ℕ, take, take_all, arith}
 use Rattle.std.specs.FinMap.{entries, get, insert, remove, get-insert, get-remove, get-retain_keys}
 use Rattle.std.proofs.lemmas.Option.{same_Some}
 use Rattle.ipnet_addr.specs.Addresses.{Family, width}
@@ -84,11 +84,8 @@ module _ (b : Block) (okb : IsBlock b) (m : BitMap (List Choice)) (ok : IsStored
   -- the key taken out
   module _ (n : BitMap (List Choice)) (e : n ≡ remove m (bit_string b)) where
     gone : (s : List Bool) → get n s ≡ cond (not (same s (bit_string b))) (get m s) None
-    gone s = ap (λ x. get x s) e ∙ get-remove bits_total m (bit_string b) s ∙ turned (same s (bit_string b))
-      where
-        turned : (c : Bool) → cond c None (get m s) ≡ cond (not c) (get m s) None
-        turned true = refl
-        turned false = refl
+    gone s = ap (λ x. get x s) e ∙ get-remove bits_total m (bit_string b) s
+        ∙ elim (same s (bit_string b)) as (λ c. cond c None (get m s) ≡ cond (not c) (get m s) None) [ true ↦ refl | false ↦ refl ]
 
     pub taken_is_stored : IsStored b.family n
     taken_is_stored = kept_is_stored b.family m ok n (λ s. not (same s (bit_string b))) gone
@@ -110,14 +107,6 @@ module _ (b : Block) (okb : IsBlock b) (m : BitMap (List Choice)) (ok : IsStored
     outside_side = kept_side b.family m ok n (λ s. not (begins (bit_string b) s)) left (λ s. not (is_inside s.block b))
         (λ d i. ap not (inside_is (stored_at b.family d).block b (key_is_block d i) okb refl ∙ ap (begins (bit_string b)) (string_of_block b.family d.0)))
 
-  -- the key of a stored block has a value
-  pub is_some_at : (choices_at side b ≡ [] → ⊥) → IsSome (get m (bit_string b))
-  is_some_at some = go (get m (bit_string b)) refl
-    where
-      go : (o : Option (List Choice)) → get m (bit_string b) ≡ o → IsSome o
-      go None e = absurd (some (at_key b okb m ok side refl (bit_string b) refl None (sym e)))
-      go (Some cs) e = refl
-
   -- choices put at the key, as a change of the choices of the block
   pub put_choices : (n : BitMap (List Choice)) (cs : List Choice) → AreChoices cs → (cs ≡ [] → ⊥) → n ≡ insert m (bit_string b) cs → stored_in b.family n ≡ with_choices side b cs
   put_choices n [] are some e = absurd (some refl)
@@ -132,7 +121,11 @@ module _ (b : Block) (okb : IsBlock b) (m : BitMap (List Choice)) (ok : IsStored
   key = take_all len s (omega (arith, all)) ∙ bits
 
   pub stored_at_key : (choices_at T b ≡ [] → ⊥) → IsSome (get m (take len s))
-  stored_at_key some = subst (λ k. IsSome (get m k)) (sym key) (is_some_at b okb m ok (λ z. some (ap (λ U. choices_at U b) (sym is) ∙ z)))
+  stored_at_key some = go (get m (take len s)) refl
+    where
+      go : (o : Option (List Choice)) → get m (take len s) ≡ o → IsSome o
+      go None e = absurd (some (at_key b okb m ok T is (take len s) key None (sym e)))
+      go (Some cs) e = refl
 
   module _ (old new : List Choice) (was : get m (take len s) ≡ Some old) where
     pub old_at : choices_at T b ≡ old

@@ -1,5 +1,5 @@
 use Rattle.std.proofs.Common.{◌∙◌}
-use Rattle.route_table.proofs.Parts.{all_keys, all_routes}
+use Rattle.route_table.proofs.Searches.{all_keys, all_routes}
 use Rattle.route_table.proofs.family_table.FamilyTable+P+1.into_routes.Goals as goal
 
 pub new-requires-2 : goal.new-requires-2

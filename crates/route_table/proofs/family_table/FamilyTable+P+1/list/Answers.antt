@@ -1,6 +1,6 @@
 use Rattle.std.proofs.Common.{◌∙◌, arith}
 use Rattle.route_table.proofs.FamilyMap.{seen_side}
-use Rattle.route_table.proofs.Parts.{listed, listed_keys}
+use Rattle.route_table.proofs.Searches.{listed, listed_keys}
 use Rattle.route_table.proofs.family_table.FamilyTable+P+1.list.Goals as goal
 
 pub children-requires : goal.children-requires

@@ -1,5 +1,5 @@
 use Rattle.std.proofs.Common.{◌∙◌}
-use Rattle.route_table.proofs.Parts.{covered, listed_keys}
+use Rattle.route_table.proofs.Searches.{covered, listed_keys}
 use Rattle.route_table.proofs.family_table.FamilyTable+P+8.cover.Goals as goal
 
 pub cover-requires : goal.cover-requires

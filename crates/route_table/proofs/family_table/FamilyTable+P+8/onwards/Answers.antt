@@ -1,5 +1,5 @@
 use Rattle.std.proofs.Common.{◌∙◌, arith}
-use Rattle.route_table.proofs.Parts.{walked, listed_keys}
+use Rattle.route_table.proofs.Searches.{walked, listed_keys}
 use Rattle.route_table.proofs.family_table.FamilyTable+P+8.onwards.Goals as goal
 
 pub iter_from-requires : goal.iter_from-requires

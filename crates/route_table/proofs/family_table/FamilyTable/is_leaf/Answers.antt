@@ -1,4 +1,4 @@
-use Rattle.route_table.proofs.Sides.{leaf_at}
+use Rattle.route_table.proofs.FamilyTables.{leaf_at}
 use Rattle.route_table.proofs.family_table.FamilyTable.is_leaf.Goals as goal
 
 pub is_leaf-requires : goal.is_leaf-requires

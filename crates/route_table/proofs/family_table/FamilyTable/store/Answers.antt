@@ -10,7 +10,7 @@ use Rattle.route_choices.specs.Choices.{Choice}
 use Rattle.route_table.specs.InnerFamilyTables.{IsStored}
 use Rattle.route_laws.specs.Networks.{with_choices}
 use Rattle.route_table.proofs.FamilyMap.{is_side}
-use Rattle.route_table.proofs.Sides.{leaf_at}
+use Rattle.route_table.proofs.FamilyTables.{leaf_at}
 use Rattle.route_table.proofs.Searches.{at_key}
 use Rattle.route_table.proofs.Stores.{put_choices, put_is_stored}
 use Rattle.route_table.proofs.family_table.FamilyTable.store.Goals as goal

@@ -1,5 +1,5 @@
-use Rattle.route_table.proofs.Sides.{seen_is_table}
+use Rattle.route_table.proofs.FamilyTables.{seen_is_table}
 use Rattle.route_table.proofs.table.Table.is_table.Goals as goal
 
 pub returns : goal.returns
-returns g c = seen_is_table _ _ _ c.self.invariant c.self.view_is
+returns g c = seen_is_table c.self.invariant c.self.view_is
