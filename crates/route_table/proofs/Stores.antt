@@ -82,30 +82,33 @@ module _ (b : Block) (okb : IsBlock b) (m : BitMap (List Choice)) (ok : IsStored
         (put_back Stored.block side r s i))
 
   -- the key taken out
-  module _ (n : BitMap (List Choice)) (e : n ≡ remove m (bit_string b)) where
+  module _ (T : List Stored) (is : side ≡ T) (n : BitMap (List Choice)) (key : List Bool) (bits : key ≡ bit_string b) (e : n ≡ remove m key) where
     gone : (s : List Bool) → get n s ≡ cond (not (same s (bit_string b))) (get m s) None
-    gone s = ap (λ x. get x s) e ∙ get-remove bits_total m (bit_string b) s
+    gone s = ap (λ x. get x s) (e ∙ ap (remove m) bits) ∙ get-remove bits_total m (bit_string b) s
         ∙ elim (same s (bit_string b)) as (λ c. cond c None (get m s) ≡ cond (not c) (get m s) None) [ true ↦ refl | false ↦ refl ]
 
     pub taken_is_stored : IsStored b.family n
     taken_is_stored = kept_is_stored b.family m ok n (λ s. not (same s (bit_string b))) gone
 
-    pub taken_side : stored_in b.family n ≡ without_stored side b
+    pub taken_side : stored_in b.family n ≡ without_stored T b
     taken_side = kept_side b.family m ok n (λ s. not (same s (bit_string b))) gone (λ s. not (same_block s.block b)) (λ d i. ap not (bools_same _ _
         (λ t. (same-Decides d.0 (bit_string b)).1 (sym (string_of_block b.family d.0) ∙ ap (λ (k : Block). bit_string k) (same_from_test (stored_at b.family d).block b t)))
         (λ t. test_from_same (stored_at b.family d).block b (same_string (stored_at b.family d).block b (key_is_block d i) okb refl (string_of_block b.family d.0 ∙ (same-Decides d.0 (bit_string b)).0 t)))))
+        ∙ ap (λ U. without_stored U b) is
 
   -- the keys inside the block taken out
-  module _ (n : BitMap (List Choice)) (e : n ≡ outside m (bit_string b)) where
+  module _ (T : List Stored) (is : side ≡ T) (n : BitMap (List Choice)) (key : List Bool) (bits : key ≡ bit_string b) (e : n ≡ outside m key) where
     left : (s : List Bool) → get n s ≡ cond (not (begins (bit_string b) s)) (get m s) None
-    left s = ap (λ x. get x s) e ∙ get-retain_keys m (λ k. not (begins (bit_string b) k)) s (λ x q. ap (λ k. not (begins (bit_string b) k)) (sym (bits_same s x q)))
+    left s = ap (λ x. get x s) (e ∙ ap (outside m) bits)
+        ∙ get-retain_keys m (λ k. not (begins (bit_string b) k)) s (λ x q. ap (λ k. not (begins (bit_string b) k)) (sym (bits_same s x q)))
 
     pub outside_is_stored : IsStored b.family n
     outside_is_stored = kept_is_stored b.family m ok n (λ s. not (begins (bit_string b) s)) left
 
-    pub outside_side : stored_in b.family n ≡ networks_outside side b
+    pub outside_side : stored_in b.family n ≡ networks_outside T b
     outside_side = kept_side b.family m ok n (λ s. not (begins (bit_string b) s)) left (λ s. not (is_inside s.block b))
         (λ d i. ap not (inside_is (stored_at b.family d).block b (key_is_block d i) okb refl ∙ ap (begins (bit_string b)) (string_of_block b.family d.0)))
+        ∙ ap (λ U. networks_outside U b) is
 
   -- choices put at the key, as a change of the choices of the block
   pub put_choices : (n : BitMap (List Choice)) (cs : List Choice) → AreChoices cs → (cs ≡ [] → ⊥) → n ≡ insert m (bit_string b) cs → stored_in b.family n ≡ with_choices side b cs

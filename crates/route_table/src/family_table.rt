@@ -8,7 +8,6 @@ ghost use Rattle.route_choices.specs.Choices.{choices_without, has_none, holds_h
 ghost use Rattle.route_choices.specs.Hops.{IsHop};
 ghost use Rattle.route_laws.specs.Onwards.{count_of, routes_after, routes_from};
 ghost use Rattle.route_laws.specs.Networks.{IsLeaf, choices_at, networks_outside, routes_of, with_choice, with_choices, without_choice, without_stored};
-ghost use Rattle.route_table.specs.Given.{IsNewLeaf};
 ghost use Rattle.route_table.specs.InnerFamilyTables.{AddsTo, IsFamilyTable, RemovesFrom};
 ghost use Rattle.route_table.specs.Refusals.{IsRefused};
 ghost use Rattle.route_table.specs.Tries.{map_of};

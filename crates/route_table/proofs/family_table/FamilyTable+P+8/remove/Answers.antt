@@ -1,11 +1,10 @@
 use Rattle.std.proofs.Common.{◌≡◌, true, List, [], ◌∷◌, refl, sym, ap, ◌∙◌, subst}
-use Rattle.std.specs.FinMap.{remove}
 use Rattle.ipnet_addr.proofs.Members.{In}
 use Rattle.ipnet_blocks.specs.Networks.{block_of}
 use Rattle.route_choices.specs.Choices.{Choice, choices_without, has_none, holds_hop}
 use Rattle.route_choices.specs.Hops.{number_of}
 use Rattle.route_choices.proofs.ChoiceLists.{only_held}
-use Rattle.route_laws.specs.Networks.{with_choices, without_stored}
+use Rattle.route_laws.specs.Networks.{with_choices}
 use Rattle.route_laws.proofs.Networks.{del_none}
 use Rattle.route_table.specs.InnerFamilyTables.{RemovesFrom}
 use Rattle.route_table.proofs.FamilyMap.{seen_side}
@@ -32,7 +31,7 @@ empty [] e = refl
 empty (c ∷ cs) e = absurd (cc)
 
 pub invariant_of-self : goal.invariant_of-self
-invariant_of-self g c = (taken_is_stored (block_of g.P.FamilyNet.family (g.P.FamilyNet.parts c.args.net)) c.requires _ c.self.invariant.0 _ (c.remove.ensures.map ∙ ap (remove c.self.inside.networks.entries) (g.met.P.FamilyNet.bits_are c.args.net)), c.remove.ensures.tidy c.self.invariant.1, c.self.invariant.2, c.self.invariant.3)
+invariant_of-self g c = (taken_is_stored _ c.requires _ c.self.invariant.0 _ c.self.view_is _ _ (g.met.P.FamilyNet.bits_are c.args.net) c.remove.ensures.map, c.remove.ensures.tidy c.self.invariant.1, c.self.invariant.2, c.self.invariant.3)
 
 pub returns-then-has_no_other : goal.returns-then-has_no_other
 returns-then-has_no_other g c =
@@ -43,7 +42,7 @@ returns-then-has_no_other g c =
       removes = record {
         held = sym {b = true} (ap (λ cs. holds_hop cs c.args.hop) was ∙ only_held c.in_ok-choices.choices.now c.args.hop (c.self.invariant.0.some _ _ (sym c.in_ok-choices.ensures)) left);
         hops = (c.number-before.ensures.number ∙ (λ i. number_of ((c.best-best.ensures i).0)) ∙ number_of_own _ c.requires _ c.self.invariant.0 _ c.self.view_is _ (g.met.P.FamilyNet.bits_are c.args.net) _ c.in_ok-choices.ensures, c.hop_at_match-after.ensures.number);
-        networks = taken_side b c.requires _ c.self.invariant.0 _ (c.remove.ensures.map ∙ ap (remove c.self.inside.networks.entries) (g.met.P.FamilyNet.bits_are c.args.net)) ∙ ap (λ T. without_stored T b) c.self.view_is
+        networks = taken_side b c.requires _ c.self.invariant.0 _ c.self.view_is _ _ (g.met.P.FamilyNet.bits_are c.args.net) c.remove.ensures.map
             ∙ ap (with_choices c.args.self.now b) (sym (ap (λ cs. choices_without cs c.args.hop) was ∙ left));
       };
       side = c.hop_at_match-after.ensures.side;
