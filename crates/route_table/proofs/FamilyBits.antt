@@ -49,10 +49,6 @@ match_entry n okn (r ∷ M) ok =
     go true t k = rw (t, k) (longer_entry r (match_of M n))
     go false t k = rw t k
 
-hop_entry : (s : Option ℕ) (m : Option Route) → bits.matched_hop s (option_map entry_of m) ≡ inherited s m
-hop_entry s None = refl
-hop_entry s (Some r) = refl
-
 module _ (f : Family) where
   abbrev pub AllOf : List Route → Type 0
   AllOf M = (r : Route) → In r M → r.block.family ≡ f
@@ -60,7 +56,7 @@ module _ (f : Family) where
   pub hop_bits : (s : Option ℕ) (M : List Route) (x : Address) → IsTable M → AllOf M → IsAddress x → x.family ≡ f
       → bits.hop_inheriting s (entries_of M) (bit_string (host x)) ≡ hop_under s M x
   hop_bits s M x t all a e = ap (bits.matched_hop s) (match_entry (host x) (host_is_block x a) M (λ r i. ((sound M t r i).0, all r i ∙ sym e)))
-      ∙ hop_entry s (match_of M (host x))
+      ∙ elim (match_of M (host x)) as (λ m. bits.matched_hop s (option_map entry_of m) ≡ inherited s m) [ None ↦ refl | Some r ↦ refl ]
 
   absent : (b : Block) (M : List Route) → IsBlock b → b.family ≡ f
       → ((r : Route) → In r M → IsBlock r.block × (r.block.family ≡ f) × IsBefore b r.block)

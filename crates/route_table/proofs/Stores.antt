@@ -30,11 +30,7 @@ module _ (f : Family) (m : BitMap (List Choice)) (ok : IsStored f m) (n : BitMap
   kept_is_stored = record { within = λ s k g. ok.within s k (was s k g); choices = λ s k g. ok.choices s k (was s k g); some = λ s k g. ok.some s k (was s k g) }
     where
       was : (s : List Bool) (k : List Choice) → get n s ≡ Some k → get m s ≡ Some k
-      was s k g = go (p s) (sym (at s) ∙ g)
-        where
-          go : (c : Bool) → cond c (get m s) None ≡ Some k → get m s ≡ Some k
-          go true e = e
-          go false e = absurd (cc)
+      was s k g = elim (p s) as (λ c. cond c (get m s) None ≡ Some k → get m s ≡ Some k) [ true ↦ λ e. e | false ↦ λ e. absurd (cc) ] (sym (at s) ∙ g)
 
   kept_side : (q : Stored → Bool) → ((e : List Bool × List Choice) → In e (entries m) → q (stored_at f e) ≡ p e.0) → stored_in f n ≡ filter q (stored_in f m)
   kept_side q h = ap (map (stored_at f)) (kept_entries m n p at ∙ sym (same_kept (λ e. q (stored_at f e)) (λ e. p e.0) (entries m) h)) ∙ sym (filter_map_swap (stored_at f) q (entries m))
@@ -47,9 +43,9 @@ module _ (b : Block) (okb : IsBlock b) (m : BitMap (List Choice)) (ok : IsStored
   key_is_block e i = block_at_is_block b.family e.0 (ok.within e.0 e.1 (get_of m e.0 e.1 i))
 
   -- choices at the key of the block
-  module _ (n : BitMap (List Choice)) (cs : List Choice) (are : AreChoices cs) (some : cs ≡ [] → ⊥) (e : n ≡ insert m (bit_string b) cs) where
+  module _ (n : BitMap (List Choice)) (cs : List Choice) (are : AreChoices cs) (some : cs ≡ [] → ⊥) (key : List Bool) (bits : key ≡ bit_string b) (e : n ≡ insert m key cs) where
     put_at : (s : List Bool) → get n s ≡ cond (same s (bit_string b)) (Some cs) (get m s)
-    put_at s = ap (λ x. get x s) e ∙ get-insert bits_total m (bit_string b) cs s
+    put_at s = ap (λ x. get x s) (e ∙ ap (λ k. insert m k cs) bits) ∙ get-insert bits_total m (bit_string b) cs s
 
     new_or_old : (s : List Bool) (k : List Choice) → get n s ≡ Some k → ((s ≡ bit_string b) × (k ≡ cs)) ⊎ ((s ≡ bit_string b → ⊥) × (get m s ≡ Some k))
     new_or_old s k g = go (same s (bit_string b)) refl (sym (put_at s) ∙ g)
@@ -111,9 +107,9 @@ module _ (b : Block) (okb : IsBlock b) (m : BitMap (List Choice)) (ok : IsStored
         ∙ ap (λ U. networks_outside U b) is
 
   -- choices put at the key, as a change of the choices of the block
-  pub put_choices : (n : BitMap (List Choice)) (cs : List Choice) → AreChoices cs → (cs ≡ [] → ⊥) → n ≡ insert m (bit_string b) cs → stored_in b.family n ≡ with_choices side b cs
-  put_choices n [] are some e = absurd (some refl)
-  put_choices n (c ∷ cs) are some e = put_side n (c ∷ cs) are some e
+  pub put_choices : (n : BitMap (List Choice)) (cs : List Choice) → AreChoices cs → (cs ≡ [] → ⊥) → (key : List Bool) → key ≡ bit_string b → n ≡ insert m key cs → stored_in b.family n ≡ with_choices side b cs
+  put_choices n [] are some key bits e = absurd (some refl)
+  put_choices n (c ∷ cs) are some key bits e = put_side n (c ∷ cs) are some key bits e
 
 -- ---- choices changed in place
 
@@ -135,18 +131,15 @@ module _ (b : Block) (okb : IsBlock b) (m : BitMap (List Choice)) (ok : IsStored
     old_at = at_key b okb m ok T is (take len s) key (Some old) (sym was)
 
     module _ (are : AreChoices new) (some : new ≡ [] → ⊥) where
-      put : insert m (take len s) new ≡ insert m (bit_string b) new
-      put = ap (λ k. insert m k new) key
-
       pub written_is_stored : IsStored b.family (insert m (take len s) new)
-      written_is_stored = put_is_stored b okb m ok (insert m (take len s) new) new are some put
+      written_is_stored = put_is_stored b okb m ok (insert m (take len s) new) new are some (take len s) key refl
 
       pub written_side : stored_in b.family (insert m (take len s) new) ≡ with_choices T b new
-      written_side = put_choices b okb m ok (insert m (take len s) new) new are some put ∙ ap (λ U. with_choices U b new) is
+      written_side = put_choices b okb m ok (insert m (take len s) new) new are some (take len s) key refl ∙ ap (λ U. with_choices U b new) is
 
       pub written_number : number_of (best_hop new) ≡ match_number (match_of (routes_of (stored_in b.family (insert m (take len s) new))) b)
       written_number = number_of_choices (stored_in b.family m) (is_side b.family m ok).table b okb new are some
-          ∙ ap (λ U. match_number (match_of (routes_of U) b)) (sym (put_choices b okb m ok (insert m (take len s) new) new are some put))
+          ∙ ap (λ U. match_number (match_of (routes_of U) b)) (sym (put_choices b okb m ok (insert m (take len s) new) new are some (take len s) key refl))
 
     -- where nothing changed
     module _ (e : new ≡ old) where

@@ -1,6 +1,6 @@
 use Rattle.std.proofs.Common.{◌≡◌, ◌∷◌, ◌++◌, List, Bool, ℕ, ◌+◌, ◌*◌, ◌<◌, ◌≤◌, refl, ◌∙◌, sym, ap, subst, arith}
 use prog.Memory.{up}
-use Rattle.std.specs.FinMap.{get, get-empty, insert, empty}
+use Rattle.std.specs.FinMap.{get, get-empty, empty}
 use Rattle.ipnet_blocks.specs.BitStrings.{bits_cmp}
 use Rattle.ipnet_blocks.specs.Networks.{block_of}
 use Rattle.trie_core.specs.Inside.{NothingInside}
@@ -36,11 +36,11 @@ pub returns-in-Err-clause-absent : goal.returns-in-Err-clause-absent
 returns-in-Err-clause-absent g c = at_key _ c.requires _ c.self.invariant.0 _ c.self.view_is _ (g.met.P.FamilyNet.bits_are c.args.net) _ (sym c.in-Err.ensures.absent)
 
 pub invariant_of-self-2 : goal.invariant_of-self-2
-invariant_of-self-2 g c = (put_is_stored (block_of g.P.FamilyNet.family (g.P.FamilyNet.parts c.args.net)) c.requires _ c.self.invariant.0 _ c.one-choices.result c.one-choices.ensures.are (λ e. let f = sym c.one-choices.ensures.choices ∙ e in cc) (c.in-Ok.ensures.map ∙ ap (λ s. insert c.self.inside.networks.entries s c.one-choices.result) (g.met.P.FamilyNet.bits_are c.args.net)), c.in-Ok.ensures.tidy c.self.invariant.1, c.self.invariant.2, c.self.invariant.3)
+invariant_of-self-2 g c = (put_is_stored (block_of g.P.FamilyNet.family (g.P.FamilyNet.parts c.args.net)) c.requires _ c.self.invariant.0 _ c.one-choices.result c.one-choices.ensures.are (λ e. let f = sym c.one-choices.ensures.choices ∙ e in cc) _ (g.met.P.FamilyNet.bits_are c.args.net) c.in-Ok.ensures.map, c.in-Ok.ensures.tidy c.self.invariant.1, c.self.invariant.2, c.self.invariant.3)
 
 pub returns-clause-networks : goal.returns-clause-networks
 returns-clause-networks g c =
-    put_choices (block_of g.P.FamilyNet.family (g.P.FamilyNet.parts c.args.net)) c.requires _ c.self.invariant.0 _ c.one-choices.result c.one-choices.ensures.are (λ e. let f = sym c.one-choices.ensures.choices ∙ e in cc) (c.in-Ok.ensures.map ∙ ap (λ s. insert c.self.inside.networks.entries s c.one-choices.result) (g.met.P.FamilyNet.bits_are c.args.net))
+    put_choices (block_of g.P.FamilyNet.family (g.P.FamilyNet.parts c.args.net)) c.requires _ c.self.invariant.0 _ c.one-choices.result c.one-choices.ensures.are (λ e. let f = sym c.one-choices.ensures.choices ∙ e in cc) _ (g.met.P.FamilyNet.bits_are c.args.net) c.in-Ok.ensures.map
     ∙ (λ i. with_choices (c.self.view_is i) (block_of g.P.FamilyNet.family (g.P.FamilyNet.parts c.args.net)) (c.one-choices.ensures.choices i))
 
 pub returns-clause-side : goal.returns-clause-side
