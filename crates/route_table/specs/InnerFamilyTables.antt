@@ -39,7 +39,7 @@ pub record IsStored (f : Family) (m : BitMap (List Choice)) : Type 0 where
   pub choices : (s : List Bool) (cs : List Choice) → get m s ≡ Some cs → AreChoices cs
   pub some : (s : List Bool) (cs : List Choice) → get m s ≡ Some cs → cs ≡ [] → ⊥
 
--- the table after a choice was added to a network, or refused, and the numbers of the best hop at its longest match before and after
+-- a choice was added to a network, or refused: the table after it, and the numbers of its longest match before and after
 pub record AddsTo (T : List Stored) (b : Block) (c : Choice) (result : Result (Option ℕ × Option ℕ × Bool) AddRefused) (U : List Stored) : Type 0 where
   pub hops : IfOk result (λ r. (r.0 ≡ match_number (match_of (routes_of T) b)) × (r.1 ≡ match_number (match_of (routes_of U) b)))
   pub leaf : IfOk result (λ r. IsTrue r.2 ↔ IsNewLeaf T U b)
