@@ -1,12 +1,12 @@
 -- A table of one family as a table over bit strings: its order, and the hops that it gives.
-use Rattle.std.proofs.Common.{◌≡◌, ℕ, ◌*◌, ◌-◌, ◌^◌, ◌≤◌, Bool, true, false, cond, nat_lt, inl, inr, List, [], ◌∷◌, length, Option, Some, None, option_map, refl, sym, ap, ◌∙◌, subst, mod-eq_of_lt, arith}
+use Rattle.std.proofs.Common.{◌≡◌, ◌↔◌, ⊎_elim, ℕ, ◌*◌, ◌-◌, ◌^◌, ◌≤◌, Bool, true, false, cond, nat_lt, inl, inr, List, [], ◌∷◌, length, Option, Some, None, option_map, refl, sym, ap, ◌∙◌, subst, mod-eq_of_lt, arith}
 use Rattle.ipnet_addr.specs.Addresses.{Family, Address, IsAddress, width}
 use Rattle.ipnet_addr.proofs.Members.{In}
 use Rattle.ipnet_addr.proofs.Ascending.{All-from_In, In-from_All, Rising}
 use Rattle.ipnet_blocks.specs.BitStrings.{begins}
 use Rattle.ipnet_blocks.specs.Blocks.{Block, IsBlock, IsBefore, IsInside, digits, bit_string, family_block, first_of, host, is_inside}
 use Rattle.ipnet_blocks.proofs.BlockLaws.{has_first}
-use Rattle.ipnet_blocks.proofs.Maximals.{member_is_address}
+use Rattle.ipnet_blocks.proofs.Maximals.{host_is_block, member_is_address}
 use Rattle.ipnet_blocks.proofs.Order.{order_of_strings}
 use Rattle.ipnet_blocks.proofs.Search.{whole_is_block, inside_whole}
 use Rattle.ipnet_blocks.proofs.Strings.{length-digits}
@@ -17,12 +17,11 @@ use Rattle.trie_core.proofs.Numbers.{number_bound, number-digits, one_power}
 use Rattle.route_laws.specs.Fewest.{inherited, hop_under, GivesInside}
 use Rattle.route_laws.specs.Tables.{Route, IsTable, covering, longer, longest, match_of}
 use Rattle.route_laws.proofs.Families.{in_family}
-use Rattle.route_laws.proofs.Insides.{Sooner, sound, rising, has_from_test, test_from_has}
-use Rattle.route_laws.proofs.Matches.{bools_same}
+use Rattle.route_laws.proofs.Insides.{Sooner, sound, rising}
 use Rattle.route_laws.proofs.Ordered.{before_apart}
 use Rattle.route_table.specs.InnerLeast.{address_at, entry_of, entries_of, hops_of}
-use Rattle.route_table.proofs.FlatPieces.{begins_host, has_begun, bits_at}
-use Rattle.route_table.proofs.Strings.{same_string}
+use Rattle.route_table.proofs.FlatPieces.{bits_at}
+use Rattle.route_table.proofs.Strings.{inside_is, same_string}
 
 -- no block of a table has more bits than an address
 pub lengths : (w : ℕ) (t : List (List Bool × Option ℕ)) → bits.IsBitTable w t → (e : List Bool × Option ℕ) → In e t → length e.0 ≤ w
@@ -34,39 +33,21 @@ longer_entry : (r : Route) (m : Option Route) → bits.longer_route (entry_of r)
 longer_entry r None = refl
 longer_entry r (Some s) =
     rw (length-digits r.block.len r.block.quotient, length-digits s.block.len s.block.quotient)
-    (go (nat_lt r.block.len s.block.len))
+    (elim (nat_lt r.block.len s.block.len) as (λ c. cond c (Some (entry_of s)) (Some (entry_of r)) ≡ Some (entry_of (cond c s r))) [ true ↦ refl | false ↦ refl ])
+
+-- the longest match of a block
+pub match_entry : (n : Block) → IsBlock n → (M : List Route) → ((r : Route) → In r M → IsBlock r.block × (r.block.family ≡ n.family))
+    → bits.longest_route (entries_of M) (bit_string n) ≡ option_map entry_of (match_of M n)
+match_entry n okn [] ok = refl
+match_entry n okn (r ∷ M) ok =
+    let k = ok r (inl refl) in
+    go (is_inside n r.block) (sym (inside_is n r.block okn k.0 (sym k.1))) (match_entry n okn M (λ s i. ok s (inr i)))
   where
-    go : (c : Bool) → cond c (Some (entry_of s)) (Some (entry_of r)) ≡ Some (entry_of (cond c s r))
-    go true = refl
-    go false = refl
-
--- the longest match of an address
-match_entry : (x : Address) → IsAddress x → (M : List Route)
-    → ((r : Route) → In r M → IsBlock r.block × (r.block.family ≡ x.family))
-    → bits.longest_route (entries_of M) (bit_string (host x)) ≡ option_map entry_of (match_of M (host x))
-match_entry x a [] ok = refl
-match_entry x a (r ∷ M) ok = go (is_inside (host x) r.block) same (match_entry x a M (λ s i. ok s (inr i)))
-  where
-    p : IsBlock r.block
-    p = (ok r (inl refl)).0
-
-    e : r.block.family ≡ x.family
-    e = (ok r (inl refl)).1
-
-    same : begins (bit_string r.block) (bit_string (host x)) ≡ is_inside (host x) r.block
-    same = bools_same _ _ (λ t. test_from_has x a r p (has_begun r.block x p a e t))
-        (λ t. begins_host r.block x p a e (has_from_test x a r p t))
-
-    go : (c : Bool) → begins (bit_string r.block) (bit_string (host x)) ≡ c
-        → bits.longest_route (entries_of M) (bit_string (host x)) ≡ option_map entry_of (match_of M (host x))
-        → bits.longest_route (entries_of (r ∷ M)) (bit_string (host x)) ≡ option_map entry_of
-        (longest (cond c (r ∷ covering M (host x)) (covering M (host x))))
-    go true t k = rw (t, k) (longer_entry r (match_of M (host x)))
+    go : (c : Bool) → begins (bit_string r.block) (bit_string n) ≡ c
+        → bits.longest_route (entries_of M) (bit_string n) ≡ option_map entry_of (match_of M n)
+        → bits.longest_route (entries_of (r ∷ M)) (bit_string n) ≡ option_map entry_of (longest (cond c (r ∷ covering M n) (covering M n)))
+    go true t k = rw (t, k) (longer_entry r (match_of M n))
     go false t k = rw t k
-
-hop_entry : (s : Option ℕ) (m : Option Route) → bits.matched_hop s (option_map entry_of m) ≡ inherited s m
-hop_entry s None = refl
-hop_entry s (Some r) = refl
 
 module _ (f : Family) where
   abbrev pub AllOf : List Route → Type 0
@@ -74,8 +55,8 @@ module _ (f : Family) where
 
   pub hop_bits : (s : Option ℕ) (M : List Route) (x : Address) → IsTable M → AllOf M → IsAddress x → x.family ≡ f
       → bits.hop_inheriting s (entries_of M) (bit_string (host x)) ≡ hop_under s M x
-  hop_bits s M x t all a e = ap (bits.matched_hop s) (match_entry x a M (λ r i. ((sound M t r i).0, all r i ∙ sym e)))
-      ∙ hop_entry s (match_of M (host x))
+  hop_bits s M x t all a e = ap (bits.matched_hop s) (match_entry (host x) (host_is_block x a) M (λ r i. ((sound M t r i).0, all r i ∙ sym e)))
+      ∙ elim (match_of M (host x)) as (λ m. bits.matched_hop s (option_map entry_of m) ≡ inherited s m) [ None ↦ refl | Some r ↦ refl ]
 
   absent : (b : Block) (M : List Route) → IsBlock b → b.family ≡ f
       → ((r : Route) → In r M → IsBlock r.block × (r.block.family ≡ f) × IsBefore b r.block)
@@ -104,31 +85,25 @@ module _ (f : Family) where
       )
 
   -- they ascend exactly if their bit strings do
-  before_entries : (b : Block) (M : List Route) → IsBlock b → b.family ≡ f → Blocks M → ((s : Route) → In s M → IsBefore b s.block)
-      → ComesBeforeAll (bit_string b) (entries_of M)
-  before_entries b [] p e k up = tt
-  before_entries b (s ∷ M) p e k up =
-      let t = k s (inl refl) in (
-        (order_of_strings b s.block p t.0 (e ∙ sym t.1)).0 (up s (inl refl)),
-        before_entries b M p e (λ r i. k r (inr i)) (λ r i. up r (inr i)),
+  before_same : (b : Block) (M : List Route) → IsBlock b → b.family ≡ f → Blocks M → ((s : Route) → In s M → IsBefore b s.block) ↔ ComesBeforeAll (bit_string b) (entries_of M)
+  before_same b [] p e k = (λ up. tt, λ up s i. absurd i)
+  before_same b (q ∷ M) p e k =
+      let t = k q (inl refl) in
+      let o = order_of_strings b q.block p t.0 (e ∙ sym t.1) in
+      let rest = before_same b M p e (λ s i. k s (inr i)) in (
+        λ up. (o.0 (up q (inl refl)), rest.0 (λ s i. up s (inr i))),
+        λ up s i. ⊎_elim (λ (h : s ≡ q). subst (λ (r : Route). IsBefore b r.block) (sym h) (o.1 up.0)) (λ h. rest.1 up.1 s h) i,
       )
 
   pub order_entries : (M : List Route) → Blocks M → Rising Sooner M → IsInOrder (entries_of M)
   order_entries [] k up = tt
   order_entries (r ∷ M) k up = let t = k r (inl refl) in
-      (before_entries r.block M t.0 t.1 (λ s i. k s (inr i)) up.0, order_entries M (λ s i. k s (inr i)) up.1)
-
-  before_all : (b : Block) (M : List Route) → IsBlock b → b.family ≡ f → Blocks M → ComesBeforeAll (bit_string b) (entries_of M)
-      → (s : Route) → In s M → IsBefore b s.block
-  before_all b [] p e k up s i = absurd i
-  before_all b (q ∷ M) p e k up s (inl h) = let t = k q (inl refl) in
-      subst (λ (r : Route). IsBefore b r.block) (sym h) ((order_of_strings b q.block p t.0 (e ∙ sym t.1)).1 up.0)
-  before_all b (q ∷ M) p e k up s (inr i) = before_all b M p e (λ r j. k r (inr j)) up.1 s i
+      ((before_same r.block M t.0 t.1 (λ s i. k s (inr i))).0 up.0, order_entries M (λ s i. k s (inr i)) up.1)
 
   pub rising_entries : (M : List Route) → Blocks M → IsInOrder (entries_of M) → Rising Sooner M
   rising_entries [] k up = tt
   rising_entries (r ∷ M) k up = let t = k r (inl refl) in
-      (before_all r.block M t.0 t.1 (λ s i. k s (inr i)) up.0, rising_entries M (λ s i. k s (inr i)) up.1)
+      ((before_same r.block M t.0 t.1 (λ s i. k s (inr i))).1 up.0, rising_entries M (λ s i. k s (inr i)) up.1)
 
   string_of_bits : (x : Address) → IsAddress x → x.family ≡ f → address_at f (bit_string (host x)) ≡ x
   string_of_bits x a e =

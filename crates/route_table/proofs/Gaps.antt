@@ -1,26 +1,26 @@
 -- The gaps between the routes inside a network, and the blocks of them that an iterator has left.
-use Rattle.std.proofs.Common.{◌≡◌, ℕ, zero, suc, ◌+◌, ◌-◌, ◌^◌, ◌≤◌, ◌<◌, inl, inr, Bool, true, false, cond, nat_lt, nat_le, max, List, [], ◌∷◌, ◌++◌, map, Option, Some, None, All, refl, sym, ap, ◌∙◌, subst, lt-ltb, le-leb, arith}
+use Rattle.std.proofs.Common.{◌≡◌, ℕ, zero, suc, ◌+◌, ◌-◌, ◌^◌, ◌≤◌, ◌<◌, inl, inr, Bool, true, false, cond, nat_lt, nat_le, max, List, [], ◌∷◌, ◌++◌, map, Option, Some, None, All, refl, sym, ap, ◌∙◌, subst, lt-ltb, le-leb, arith, length, le-ltb}
 use Rattle.std.specs.Iterator.{YieldsFirst}
 use Rattle.std.proofs.lemmas.Bool.Decides.{nat_tests}
 use Rattle.ipnet_addr.specs.Addresses.{Family, Ipv4, Ipv6, width}
 use Rattle.ipnet_addr.proofs.Members.{In}
 use Rattle.ipnet_addr.proofs.Ascending.{In-from_All, All-from_In}
-use Rattle.ipnet_blocks.specs.Blocks.{Block, first, last}
-use Rattle.ipnet_blocks.specs.Networks.{Network, net_of}
+use Rattle.ipnet_blocks.specs.Blocks.{Block, first, last, bit_string}
+use Rattle.ipnet_blocks.specs.Networks.{Network, net_of, block_of}
 use Rattle.ipnet_blocks.specs.Cuts.{Limits, block_from, cut_within, cut, first_free}
 use Rattle.ipnet_blocks.specs.InnerSpans.{limits_of}
 use Rattle.ipnet_blocks.specs.declared.aggregate.Span.{Span}
 use Rattle.ipnet.specs.IpNets.{block, family, parts, net_in, network_at}
 use Rattle.ipnet.specs.IpSubnets.{ip_cut, ip_limits, ip_subnets}
 use Rattle.ipnet.specs.declared.ip_net.IpNet.{IpNet}
-use Rattle.ipnet.specs.declared.ip_net.IpNet.TheVariants as net
 use Rattle.ipnet.specs.declared.subnets.IpSubnets.{IpSubnets}
 use Rattle.ipnet.specs.declared.subnets.IpSubnets.TheVariants.{V4, V6}
 use Rattle.route_laws.specs.Tables.{Route}
-use Rattle.route_laws.proofs.NetworksAt.{of_network_at}
+use Rattle.route_laws.proofs.NetworksAt.{of_network_at, block_of-net_in}
 use Rattle.route_table.specs.Items.{GivesBlock}
-use Rattle.route_table.specs.InnerGoverning.{AreGaps, GivesGap, IsPassed, gap_before, gaps, gaps_left, blocks_of_spans, blocks_left}
+use Rattle.route_table.specs.InnerGoverning.{AreGaps, GivesGap, IsPassed, gap_before, gaps, gaps_left, blocks_of_spans, blocks_left, GivesSpan}
 use Rattle.route_table.specs.declared.governed.Gaps.{Gaps}
+use Rattle.ipnet_blocks.proofs.Strings.{length-digits}
 
 -- ---- past a route
 
@@ -56,14 +56,47 @@ module _ (g h : Gaps) (at : ℕ) (fs : List Route) (n : h.net ≡ g.net) (e : h.
           ∙ ap (λ x. gaps (parts g.net).len (max g.at (at + 1)) x h.inside) e ∙ ap (gaps (parts g.net).len (max g.at (at + 1)) g.end) i
       go false q = ap (λ b. cond b [] (gaps (parts h.net).len h.at h.end h.inside)) q.0
 
+-- the network has k bits, and the next route the length and the span of p
+module _ (n : Block) (bits : List Bool) (same : bits ≡ bit_string n) (k : ℕ) (is : k ≡ length bits) (at end : ℕ) (rs left : List Route) (p : ℕ × Span) (gives : GivesSpan rs (Some p) left) where
+  abbrev beyond : List Span
+  beyond = cond (nat_lt p.1.last end) (gaps n.len (max at (p.1.last + 1)) end left) []
+
+  stepped : gaps n.len at end rs ≡ cond (nat_lt k p.0) (gap_before at p.1.first beyond) (gaps n.len at end left)
+  stepped = ap (gaps n.len at end) gives.1 ∙ (λ i. cond (nat_lt (len i) (sym gives.2 i))
+      (gap_before at (sym gives.3 i) (cond (nat_lt (sym gives.4 i) end) (gaps n.len (max at (sym gives.4 i + 1)) end left) [])) (gaps n.len at end left))
+    where
+      len : n.len ≡ k
+      len = sym (is ∙ ap length same ∙ length-digits n.len n.quotient)
+
+  -- a route that is no longer counts for nothing
+  pub gaps-short : p.0 ≤ k → gaps n.len at end rs ≡ gaps n.len at end left
+  gaps-short h = stepped ∙ ap (λ b. cond b (gap_before at p.1.first beyond) (gaps n.len at end left)) (le-ltb _ _ h)
+
+  module _ (long : k < p.0) where
+    longer : gaps n.len at end rs ≡ gap_before at p.1.first beyond
+    longer = stepped ∙ ap (λ b. cond b (gap_before at p.1.first beyond) (gaps n.len at end left)) (lt-ltb _ _ long)
+
+    pub gaps-before : at < p.1.first → gaps n.len at end rs ≡ record { first = at; last = p.1.first - 1 } ∷ beyond
+    gaps-before h = longer ∙ ap (λ b. cond b (record { first = at; last = p.1.first - 1 } ∷ beyond) beyond) (lt-ltb _ _ h)
+
+    module _ (met : p.1.first ≤ at) where
+      no_gap : gaps n.len at end rs ≡ beyond
+      no_gap = longer ∙ ap (λ b. cond b (record { first = at; last = p.1.first - 1 } ∷ beyond) beyond) (le-ltb _ _ met)
+
+      pub gaps-none : end ≤ p.1.last → gaps n.len at end rs ≡ []
+      gaps-none h = no_gap ∙ ap (λ b. cond b (gaps n.len (max at (p.1.last + 1)) end left) []) (le-ltb _ _ h)
+
+      pub gaps-after : p.1.last < end → gaps n.len at end rs ≡ gaps n.len (max at (p.1.last + 1)) end left
+      gaps-after h = no_gap ∙ ap (λ b. cond b (gaps n.len (max at (p.1.last + 1)) end left) []) (lt-ltb _ _ h)
+
 -- a longer route that leaves a gap before it
 pub gap_given : (g h : Gaps) (r : Route) (fs : List Route) → h.net ≡ g.net → h.end ≡ g.end → h.inside ≡ fs → IsPassed g (last r.block) h → g.done ≡ false → g.inside ≡ r ∷ fs → (parts g.net).len < r.block.len → g.at < first r.block
     → gaps_left g ≡ record { first = g.at; last = first r.block - 1 } ∷ gaps_left h
 gap_given g h r fs n e i p d s long far =
-    let len = (parts g.net).len in
-    ap (λ b. cond b [] (gaps len g.at g.end g.inside)) d ∙ ap (gaps len g.at g.end) s
-    ∙ ap (λ b. cond b (gap_before g.at (first r.block) (cond (nat_lt (last r.block) g.end) (gaps len (max g.at (last r.block + 1)) g.end fs) [])) (gaps len g.at g.end fs)) (lt-ltb _ _ long)
-    ∙ ap (λ b. cond b (record { first = g.at; last = first r.block - 1 } ∷ cond (nat_lt (last r.block) g.end) (gaps len (max g.at (last r.block + 1)) g.end fs) []) (cond (nat_lt (last r.block) g.end) (gaps len (max g.at (last r.block + 1)) g.end fs) [])) (lt-ltb _ _ far)
+    let b = block g.net in
+    let k = length-digits b.len b.quotient in
+    ap (λ b. cond b [] (gaps (parts g.net).len g.at g.end g.inside)) d
+    ∙ gaps-before b (bit_string b) refl b.len (sym k) g.at g.end g.inside fs (r.block.len, record { first = first r.block; last = last r.block }) (r, s, refl, refl, refl) long far
     ∙ ap (λ ss. record { first = g.at; last = first r.block - 1 } ∷ ss) (sym (passed_left g h (last r.block) fs n e i p d))
 
 -- ---- the blocks of a gap
@@ -72,22 +105,19 @@ of_networks : (bs : List Block) → map block (map network_at bs) ≡ bs
 of_networks [] = refl
 of_networks (b ∷ bs) = let p = of_network_at b in let q = of_networks bs in λ i. p i ∷ q i
 
-within_networks : (n : ℕ) (l : Limits) → (map net.V4 (map net_of (cut_within n Ipv4 l)) ≡ map network_at (cut_within n Ipv4 l)) × (map net.V6 (map net_of (cut_within n Ipv6 l)) ≡ map network_at (cut_within n Ipv6 l))
+within_networks : (f : Family) (n : ℕ) (l : Limits) → map (net_in f) (map net_of (cut_within n f l)) ≡ map network_at (cut_within n f l)
 unfolding cut_within
-within_networks zero l = (refl, refl)
-within_networks (suc n) l = (
-  go Ipv4 net.V4 (λ m. refl) (nat_le l.start l.end) _ (within_networks n (record l { start = l.start + 2 ^ first_free 32 l })).0,
-  go Ipv6 net.V6 (λ m. refl) (nat_le l.start l.end) _ (within_networks n (record l { start = l.start + 2 ^ first_free 128 l })).1,
-)
+within_networks f zero l = refl
+within_networks f (suc n) l = go (nat_le l.start l.end) _ (within_networks f n (record l { start = l.start + 2 ^ first_free (width f) l }))
   where
-    go : (f : Family) (v : Network → IpNet) → ((m : Network) → v m ≡ net_in f m) → (b : Bool) (rest : List Block) → map v (map net_of rest) ≡ map network_at rest
-        → map v (map net_of (cond b (block_from f l.start (first_free (width f) l) ∷ rest) [])) ≡ map network_at (cond b (block_from f l.start (first_free (width f) l) ∷ rest) [])
-    go f v h true rest e = let p = h (net_of (block_from f l.start (first_free (width f) l))) in λ i. p i ∷ e i
-    go f v h false rest e = refl
+    go : (b : Bool) (rest : List Block) → map (net_in f) (map net_of rest) ≡ map network_at rest
+        → map (net_in f) (map net_of (cond b (block_from f l.start (first_free (width f) l) ∷ rest) [])) ≡ map network_at (cond b (block_from f l.start (first_free (width f) l) ∷ rest) [])
+    go true rest e = ap (λ ns. net_in f (net_of (block_from f l.start (first_free (width f) l))) ∷ ns) e
+    go false rest e = refl
 
 networks_are : (s : IpSubnets) → ip_subnets s ≡ map network_at (ip_cut s)
-networks_are (V4 l) = (within_networks (l.end + 1 - l.start) l).0
-networks_are (V6 l) = (within_networks (l.end + 1 - l.start) l).1
+networks_are (V4 l) = within_networks Ipv4 (l.end + 1 - l.start) l
+networks_are (V6 l) = within_networks Ipv6 (l.end + 1 - l.start) l
 
 -- what a subnet iterator gives, as blocks
 module _ (s t : IpSubnets) where
@@ -142,3 +172,10 @@ next_gap g h s t u v gap o n y z e w =
     go : (o : Option IpNet) → GivesBlock (ip_cut u) o (ip_cut v) → ip_cut u ≡ cut (family g.net) (limits_of gap) → blocks_left g s ≡ ip_cut u ++ blocks_of_spans (family h.net) (gaps_left h) → GivesBlock (blocks_left g s) o (blocks_left h v)
     go None d c all = absurd (some_cut (family g.net) (limits_of gap) z.1 (sym c ∙ d.0))
     go (Some n) d c all = (all ∙ ap (λ bs. bs ++ blocks_of_spans (family h.net) (gaps_left h)) d.0, d.1)
+
+-- a network of one family as one of either, and the number of its bits
+pub block_in_family : (f : Family) (m : Network) (net : IpNet) → net ≡ net_in f m → block net ≡ block_of f m
+block_in_family f m net e = ap block e ∙ block_of-net_in f m
+
+pub length_of_bits : (f : Family) (m : Network) (s : List Bool) → s ≡ bit_string (block_of f m) → length s ≡ m.len
+length_of_bits f m s e = ap length e ∙ length-digits m.len _

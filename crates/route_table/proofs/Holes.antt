@@ -2,7 +2,7 @@
 use Rattle.std.proofs.Common.{◌≡◌, ◌-◌, ◌≤◌, ⊎_elim, inl, inr, Bool, true, false, List, [], ◌∷◌, ◌++◌, length, drop, refl, sym, ap, ◌∙◌, subst, length-append, arith}
 use Rattle.ipnet_addr.specs.Addresses.{Address, Family, IsAddress, width}
 use Rattle.ipnet_addr.proofs.Members.{In}
-use Rattle.ipnet_addr.proofs.Ascending.{Contains-from_In, In-from_All, In-from_Contains}
+use Rattle.ipnet_addr.proofs.Ascending.{Contains-from_In, In-from_Contains}
 use Rattle.ipnet_blocks.specs.BitStrings.{begins}
 use Rattle.ipnet_blocks.specs.Blocks.{Block, IsBlock, IsInside, bit_string, host}
 use Rattle.ipnet_blocks.proofs.BitStrings.{begins_on, begun_rest}
@@ -15,18 +15,15 @@ use Rattle.nearest_table.specs.Blocks.{IsCovered, inner}
 use Rattle.nearest_table.proofs.Asked.{asked_law}
 use Rattle.ipnet_blocks.specs.Networks.{Network, block_of}
 use Rattle.ipnet.specs.IpNets.{block}
-use Rattle.route_choices.proofs.Kept.{In-map}
-use Rattle.route_laws.specs.Networks.{Stored, best_route, routes_of}
 use Rattle.route_laws.specs.Tables.{Governed, IsTable, Route}
 use Rattle.route_laws.proofs.Insides.{sound}
 use Rattle.route_laws.proofs.NetworksAt.{block_of-net_in, of_network_at}
 use Rattle.route_table.specs.InnerGoverning.{GovernsNone}
 use Rattle.route_table.specs.InnerLeast.{address_at, entries_of}
-use Rattle.route_table.specs.InnerFamilyTables.{IsFamilyTable, block_at}
+use Rattle.route_table.specs.InnerFamilyTables.{block_at}
 use Rattle.route_table.proofs.FamilyBits.{AllOf}
 use Rattle.route_table.proofs.FlatPieces.{begins_host, bits_at, has_begun}
-use Rattle.route_table.proofs.Stores.{string_or_not}
-use Rattle.route_table.proofs.Strings.{block_at_is_block, same_string, string_of_block}
+use Rattle.route_table.proofs.Strings.{block_at_is_block, same_string, string_of_block, string_or_not}
 use Rattle.route_table.proofs.Updating.{network_of_bits}
 use Rattle.trie_core.specs.Bits.{number_from}
 use Rattle.trie_core.proofs.Numbers.{number_bound}
@@ -100,10 +97,6 @@ module _ (f : Family) (M : List Route) (table : IsTable M) (all : AllOf f M) (s 
         (let m = ap length whole in omega (arith, m, long, length-append s (drop (length s) y))),
         ((asked_law (entries_of M) s).3 (drop (length s) y)).1 (subst (NoneHolds (entries_of M) s) (sym whole) (free_from_governed x ok e g)),
       )
-
--- all routes of a side are of its family
-pub routes_in_family : (f : Family) (T : List Stored) → IsFamilyTable f T → AllOf f (routes_of T)
-routes_in_family f T side r i = let u = In-map best_route T r i in ap (λ (q : Route). q.block.family) u.2 ∙ In-from_All (λ (t : Stored). t.block.family ≡ f) T side.family u.0 u.1
 
 -- the block of the key with these bits
 pub block_of_bits : (f : Family) {K : Type 0} (of_bits : List Bool → K) (parts_in : K → Network) (parts_are : (s : List Bool) → parts_in (of_bits s) ≡ record { number = number_from (width f) s; len = length s })

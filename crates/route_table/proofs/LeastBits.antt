@@ -1,5 +1,5 @@
 -- Tables of one family as tables over bit strings.
-use Rattle.std.proofs.Common.{◌≡◌, ℕ, suc, ◌^◌, ◌<◌, ◌≤◌, ⊎_elim, Bool, IsTrue, inl, inr, List, [], ◌∷◌, ◌++◌, length, All, AllPairs, IfOk, IfSome, Result, Ok, Err, Option, Some, None, refl, sym, ap, ap₂, ◌∙◌, subst, Less, arith}
+use Rattle.std.proofs.Common.{◌≡◌, ℕ, suc, ◌^◌, ◌<◌, ◌≤◌, ⊎_elim, Bool, IsTrue, inl, inr, List, [], ◌∷◌, ◌++◌, length, All, AllPairs, IfOk, IfSome, Result, Ok, Err, Option, None, refl, sym, ap, ap₂, ◌∙◌, subst, Less, arith}
 use Rattle.std.proofs.lemmas.List.{map-append}
 use Rattle.ipnet.proofs.IpNetworks.{net_family}
 use Rattle.ipnet_addr.specs.Addresses.{Family, Ipv4, Ipv6, Address, width}

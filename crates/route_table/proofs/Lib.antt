@@ -1,21 +1,13 @@
 pub mod Strings
-pub mod Entries
 pub mod Outcomes
-pub mod Room
 pub mod FamilyMap
 pub mod Searches
 pub mod Stores
 pub mod Asked
-pub mod Found
-pub mod Calls
-pub mod InPlace
 pub mod Walked
-pub mod Parts
 pub mod Gaps
 pub mod Governings
 pub mod FamilyTables
-pub mod Leaves
-pub mod Emptied
 pub mod PaintedRuns
 pub mod Openings
 pub mod Painted
@@ -26,7 +18,6 @@ pub mod Shortcuts
 pub mod FlatRuns
 pub mod Flattenings
 pub mod HopRuns
-pub mod Halves
 pub mod Owned
 pub mod FlatPieces
 pub mod FamilyBits
@@ -38,7 +29,5 @@ pub mod LeastBits
 pub mod BetweenSteps
 pub mod Paints
 pub mod Updating
-pub mod GapSteps
 pub mod Holes
-pub mod OneChange
 pub mod OneEdits

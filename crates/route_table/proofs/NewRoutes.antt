@@ -23,8 +23,8 @@ use Rattle.route_table.specs.InnerLeast.{entry_of, entries_of}
 use Rattle.route_table.specs.InnerFamilyTables.{block_at}
 use Rattle.route_table.specs.InnerUpdates.{installed_route, routes_in}
 use Rattle.route_table.proofs.FamilyBits.{AllOf, Blocks, lengths, rising_entries}
-use Rattle.route_table.proofs.PartBits.{bits_of, held_bits, part, part_all, same_entry, string-true}
-use Rattle.route_table.proofs.Strings.{block_at_is_block, block_of_string, string_of_block}
+use Rattle.route_table.proofs.PartBits.{bits_of, held_bits, part, part_all, same_entry}
+use Rattle.route_table.proofs.Strings.{block_at_is_block, block_of_string, string-true, string_of_block}
 
 -- maps that agree on the members
 module _ (f : Family) where
@@ -45,21 +45,15 @@ module _ (f : Family) where
 
   kept_held : (L : List Route) (e : List Bool × Option ℕ) → near.has (entries_of L) e ≡ true → In (kept L e) L
   kept_held [] e h = absurd (cc)
-  kept_held (r ∷ L) e h = go (same_entry (entry_of r) e) h (kept_held L e)
-    where
-      go : (c : Bool) → (c || near.has (entries_of L) e) ≡ true → (near.has (entries_of L) e ≡ true → In (kept L e) L)
-          → In (cond c r (kept L e)) (r ∷ L)
-      go true t more = inl refl
-      go false t more = inr (more t)
+  kept_held (r ∷ L) e h = cond_both (same_entry (entry_of r) e) r (kept L e) (λ (q : Route). In q (r ∷ L))
+      (λ t. inl refl)
+      (λ t. inr (kept_held L e (ap (λ b. b || near.has (entries_of L) e) (sym t) ∙ h)))
 
   kept_new : (L : List Route) (e : List Bool × Option ℕ) → near.has (entries_of L) e ≡ false → kept L e ≡ installed_route f e
   kept_new [] e h = refl
-  kept_new (r ∷ L) e h = go (same_entry (entry_of r) e) h (kept_new L e)
-    where
-      go : (c : Bool) → (c || near.has (entries_of L) e) ≡ false
-          → (near.has (entries_of L) e ≡ false → kept L e ≡ installed_route f e) → cond c r (kept L e) ≡ installed_route f e
-      go true t more = cc
-      go false t more = more t
+  kept_new (r ∷ L) e h = cond_both (same_entry (entry_of r) e) r (kept L e) (λ (q : Route). q ≡ installed_route f e)
+      (λ t. absurd (let z = ap (λ b. b || near.has (entries_of L) e) (sym t) ∙ h in cc))
+      (λ t. kept_new L e (ap (λ b. b || near.has (entries_of L) e) (sym t) ∙ h))
 
   -- the blocks of routes that are taken out
   pub removed_blocks : (K : List Route) → Blocks f K → map Remove (map (block_at f) (blocks (entries_of K))) ≡ removes K

@@ -113,18 +113,18 @@ module _ (M : List Route) (k : ℕ) (B : Address → Type 0) (ns : List IpNet) w
 
   pub grows : (ms : List IpNet) (r : Route) (rs fs : List Route) → rs ≡ r ∷ fs → Keeps ns rs → GrowsBy ns (λ x. Owns M k x r) ms → Keeps ms fs
   grows ms r rs fs e keeps grow x a = (
-    λ h. ⊎_elim
-        (λ i. ⊎_elim (λ j. (keeps x a).0 (inl j)) (λ o. (keeps x a).0 (inr (with_it (any_left (Owns M k x) (r ∷ []) fs (any_one (Owns M k x) r o))))) ((grow x a).0 i))
-        (λ o. (keeps x a).0 (inr (with_it (any_right (Owns M k x) (r ∷ []) fs o))))
-        h,
+    λ h. (keeps x a).0 (⊎_elim (λ i. ⊎_elim (λ j. inl j) (λ o. inr (parts.1 (inl o))) ((grow x a).0 i)) (λ o. inr (parts.1 (inr o))) h),
     λ b. ⊎_elim
         (λ j. inl ((grow x a).1 (inl j)))
-        (λ o. ⊎_elim (λ p. inl ((grow x a).1 (inr (one_any (Owns M k x) r p)))) (λ q. inr q) (any_cases (Owns M k x) (r ∷ []) fs (subst (λ ss. Any (Owns M k x) ss) e o)))
+        (λ o. ⊎_elim (λ p. inl ((grow x a).1 (inr p))) (λ q. inr q) (parts.0 o))
         ((keeps x a).1 b),
   )
     where
-      with_it : Any (Owns M k x) (r ∷ fs) → Any (Owns M k x) rs
-      with_it o = subst (λ ss. Any (Owns M k x) ss) (sym e) o
+      parts : IsOwned M k rs x ↔ (Owns M k x r ⊎ IsOwned M k fs x)
+      parts = subst (λ ss. IsOwned M k ss x ↔ (Owns M k x r ⊎ IsOwned M k fs x)) (sym e) (
+        λ o. ⊎_elim (λ p. inl (one_any (Owns M k x) r p)) (λ q. inr q) (any_cases (Owns M k x) (r ∷ []) fs o),
+        λ h. ⊎_elim (λ o. any_left (Owns M k x) (r ∷ []) fs (any_one (Owns M k x) r o)) (λ o. any_right (Owns M k x) (r ∷ []) fs o) h,
+      )
 
 -- by the blocks that a route of the number governs
 pub grows_by_governed : (M : List Route) → IsTable M → (k : ℕ) (r : Route) (ns ms : List IpNet) (bs : List Block) → IsBlock r.block → number_of r.hop ≡ Some k → IsMaximal (Governed M r.block) bs → map block ms ≡ map block ns ++ bs → GrowsBy ns (λ x. Owns M k x r) ms

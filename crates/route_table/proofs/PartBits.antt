@@ -1,5 +1,5 @@
 -- The parts of a table in the two families, as bit strings: what they store and hold, and how far two tables are apart.
-use Rattle.std.proofs.Common.{◌≡◌, ℕ, ◌+◌, ◌≤◌, Bool, true, false, cond, not, ◌&&◌, List, [], ◌∷◌, ◌++◌, filter, length, Option, refl, sym, ap, ap₂, ◌∙◌, subst, append-nil, length-append, reverse, arith}
+use Rattle.std.proofs.Common.{◌≡◌, ℕ, ◌+◌, ◌≤◌, Bool, true, false, cond, not, ◌&&◌, All, List, [], ◌∷◌, ◌++◌, filter, length, Option, refl, sym, ap, ap₂, ◌∙◌, subst, append-nil, length-append, reverse, arith}
 use Rattle.std.proofs.lemmas.Bool.{and_from, false_from_ne_true}
 use Rattle.std.proofs.lemmas.List.{length-map, length-reverse}
 use Rattle.std.proofs.lemmas.List.Elements.{filter-append}
@@ -24,7 +24,7 @@ use Rattle.route_laws.proofs.Ordered.{not_cases, not_from}
 use Rattle.route_table.specs.Given.{AreFamilies}
 use Rattle.route_table.specs.InnerLeast.{entry_of, entries_of}
 use Rattle.route_table.proofs.FamilyBits.{AllOf}
-use Rattle.route_table.proofs.Strings.{same_string}
+use Rattle.route_table.proofs.Strings.{same_string, string-refl, string-true}
 
 -- the routes of one family
 abbrev pub part : Family → List Route → List Route
@@ -37,10 +37,11 @@ bits_of f M = entries_of (part f M)
 pub part_all : (f : Family) (M : List Route) → AllOf f (part f M)
 part_all f M r i = family_tested r.block (family_block f) (In-from_filter (λ q. is_inside q.block (family_block f)) M r i).1
 
+inside_own : (f : Family) (r : Route) → IsBlock r.block → r.block.family ≡ f → is_inside r.block (family_block f) ≡ true
+inside_own f r p e = test_from_inside r.block (family_block f) p (whole_is_block f) (inside_whole r.block f p e)
+
 pub part_In : (f : Family) (M : List Route) → IsTable M → (r : Route) → In r M → r.block.family ≡ f → In r (part f M)
-part_In f M t r i e = let p = (sound M t r i).0 in
-    In-filter (λ q. is_inside q.block (family_block f)) M r i
-    (test_from_inside r.block (family_block f) p (whole_is_block f) (inside_whole r.block f p e))
+part_In f M t r i e = In-filter (λ q. is_inside q.block (family_block f)) M r i (inside_own f r (sound M t r i).0 e)
 
 -- ---- the routes of each family, one after the other
 
@@ -48,43 +49,25 @@ module _ (M v4 v6 : List Route) (families : AreFamilies M v4 v6) where
   joined : IsTable (v4 ++ v6)
   joined = subst IsTable (sym families.routes) families.table
 
-  four : (r : Route) → In r v4 → is_inside r.block (family_block Ipv4) ≡ true
-  four r i = let p = (sound (v4 ++ v6) joined r (In-left r v4 v6 i)).0 in
-      test_from_inside r.block (family_block Ipv4) p (whole_is_block Ipv4)
-      (inside_whole r.block Ipv4 p (In-from_All (λ (q : Route). q.block.family ≡ Ipv4) v4 families.ipv4 r i))
+  -- a part keeps all routes of its family, and none of the other one
+  kept : (f : Family) (rs : List Route) → ((r : Route) → In r rs → In r (v4 ++ v6)) → All (λ r. r.block.family ≡ f) rs → part f rs ≡ rs
+  kept f rs among all = all_kept (λ r. is_inside r.block (family_block f)) rs
+      (λ r i. inside_own f r (sound (v4 ++ v6) joined r (among r i)).0 (In-from_All (λ (q : Route). q.block.family ≡ f) rs all r i))
 
-  six : (r : Route) → In r v6 → is_inside r.block (family_block Ipv6) ≡ true
-  six r i = let p = (sound (v4 ++ v6) joined r (In-right r v4 v6 i)).0 in
-      test_from_inside r.block (family_block Ipv6) p (whole_is_block Ipv6)
-      (inside_whole r.block Ipv6 p (In-from_All (λ (q : Route). q.block.family ≡ Ipv6) v6 families.ipv6 r i))
+  gone : (f g : Family) (rs : List Route) → (g ≡ f → ⊥) → All (λ r. r.block.family ≡ g) rs → part f rs ≡ []
+  gone f g rs apart all = none_kept (λ r. is_inside r.block (family_block f)) rs
+      (λ r i. false_from_ne_true _ (λ e. apart (sym (In-from_All (λ (q : Route). q.block.family ≡ g) rs all r i) ∙ family_tested r.block (family_block f) e)))
+
+  split : (f : Family) → part f M ≡ part f v4 ++ part f v6
+  split f = ap (part f) (sym families.routes) ∙ filter-append (λ r. is_inside r.block (family_block f)) v4 v6
 
   pub part_four : part Ipv4 M ≡ v4
-  part_four = ap (part Ipv4) (sym families.routes) ∙ filter-append (λ r. is_inside r.block (family_block Ipv4)) v4 v6
-      ∙ ap₂ (λ xs ys. xs ++ ys) (all_kept (λ r. is_inside r.block (family_block Ipv4)) v4 four)
-      (none_kept (λ r. is_inside r.block (family_block Ipv4)) v6 (λ r i. false_from_ne_true _ (λ e. apart r.block e (six r i))))
-      ∙ append-nil v4
+  part_four = split Ipv4 ∙ ap₂ (λ xs ys. xs ++ ys) (kept Ipv4 v4 (λ r i. In-left r v4 v6 i) families.ipv4) (gone Ipv4 Ipv6 v6 (λ e. cc) families.ipv6) ∙ append-nil v4
 
   pub part_six : part Ipv6 M ≡ v6
-  part_six = ap (part Ipv6) (sym families.routes) ∙ filter-append (λ r. is_inside r.block (family_block Ipv6)) v4 v6
-      ∙ ap₂ (λ xs ys. xs ++ ys)
-      (none_kept (λ r. is_inside r.block (family_block Ipv6)) v4 (λ r i. false_from_ne_true _ (λ e. apart r.block (four r i) e)))
-      (all_kept (λ r. is_inside r.block (family_block Ipv6)) v6 six)
+  part_six = split Ipv6 ∙ ap₂ (λ xs ys. xs ++ ys) (gone Ipv6 Ipv4 v4 (λ e. cc) families.ipv4) (kept Ipv6 v6 (λ r i. In-right r v4 v6 i) families.ipv6)
 
 -- ---- what a part stores and holds
-
-pub string-refl : (b : List Bool) → near.same_string b b ≡ true
-string-refl [] = refl
-string-refl (true ∷ b) = string-refl b
-string-refl (false ∷ b) = string-refl b
-
-pub string-true : (b c : List Bool) → near.same_string b c ≡ true → b ≡ c
-string-true [] [] e = refl
-string-true [] (y ∷ c) e = cc
-string-true (x ∷ b) [] e = cc
-string-true (true ∷ b) (true ∷ c) e = ap (λ s. true ∷ s) (string-true b c e)
-string-true (false ∷ b) (false ∷ c) e = ap (λ s. false ∷ s) (string-true b c e)
-string-true (true ∷ b) (false ∷ c) e = cc
-string-true (false ∷ b) (true ∷ c) e = cc
 
 -- whether two entries are the same
 abbrev pub same_entry : List Bool × Option ℕ → List Bool × Option ℕ → Bool

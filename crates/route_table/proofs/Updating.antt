@@ -1,5 +1,5 @@
 -- Changes as a table, the block around them, and the operations of edits, one after another.
-use Rattle.std.proofs.Common.{◌≡◌, ℕ, ◌+◌, ◌<◌, ◌≤◌, ◌⊎◌, inl, inr, ⊎_elim, Bool, true, false, List, [], ◌∷◌, ◌++◌, All, Option, Some, None, length, map, take, refl, sym, ap, ◌∙◌, subst, not, append_assoc, append-nil, slice_index_or, reverse, arith}
+use Rattle.std.proofs.Common.{◌≡◌, ℕ, ◌+◌, ◌<◌, ◌≤◌, ◌⊎◌, inl, inr, ⊎_elim, Bool, true, List, [], ◌∷◌, ◌++◌, All, Option, Some, None, length, map, take, refl, sym, ap, ◌∙◌, subst, not, append_assoc, append-nil, slice_index_or, reverse, arith}
 use Rattle.prefix_trie.proofs.Within.{begins_itself}
 use Rattle.nearest_table.proofs.TreeEdits.{installed-append, removed-append}
 use Rattle.std.proofs.lemmas.List.Elements.{All-push}

@@ -8,8 +8,7 @@ ghost use Rattle.route_choices.specs.Choices.{choices_without, has_none, holds_h
 ghost use Rattle.route_choices.specs.Hops.{IsHop};
 ghost use Rattle.route_laws.specs.Onwards.{count_of, routes_after, routes_from};
 ghost use Rattle.route_laws.specs.Networks.{IsLeaf, choices_at, networks_outside, routes_of, with_choice, with_choices, without_choice, without_stored};
-ghost use Rattle.route_table.specs.Given.{IsNewLeaf};
-ghost use Rattle.route_table.specs.InnerFamilyTables.{IsFamilyTable};
+ghost use Rattle.route_table.specs.InnerFamilyTables.{AddsTo, IsFamilyTable, RemovesFrom};
 ghost use Rattle.route_table.specs.Refusals.{IsRefused};
 ghost use Rattle.route_table.specs.Tries.{map_of};
 ghost use Rattle.route_laws.specs.Tables.{covering, match_of, match_number, routes_inside, item_of};
@@ -150,14 +149,8 @@ impl<P: FamilyNet> FamilyTable<P, 8> {
         pref: u16,
     ) -> Result<(Option<u32>, Option<u32>, bool), AddRefused>
         requires { IsBlock (block_of P.family (P.parts net)) }
-        ensures before { IfOk result (λ r. r.0 ≡ match_number (match_of (routes_of self.old) (block_of P.family (P.parts net)))) }
-        ensures after { IfOk result (λ r. r.1 ≡ match_number (match_of (routes_of self.new) (block_of P.family (P.parts net)))) }
-        ensures leaf { IfOk result (λ r. IsTrue r.2 ↔ IsNewLeaf self.old self.new (block_of P.family (P.parts net))) }
-        ensures networks { OnOk result (self.new ≡ with_choice self.old (block_of P.family (P.parts net)) (record { hop = hop; pref = pref })) }
-        ensures room { OnOk result (is_one_too_many (choices_at self.old (block_of P.family (P.parts net))) hop ≡ false) }
+        ensures adds { AddsTo self.old (block_of P.family (P.parts net)) (record { hop = hop; pref = pref }) result self.new }
         ensures side { IsFamilyTable P.family self.new }
-        ensures refused { IfErr result (IsRefused (choices_at self.old (block_of P.family (P.parts net))) hop) }
-        ensures unchanged { OnErr result (self.new ≡ self.old) }
     {
         let (before, is_stored) = self.hop_at_match(net);
         if is_stored {
@@ -193,10 +186,7 @@ impl<P: FamilyNet> FamilyTable<P, 8> {
     /// the best hop at the longest match before and after.
     pub(crate) fn remove(&mut self, net: P, hop: Hop) -> Option<(Option<u32>, Option<u32>)>
         requires { IsBlock (block_of P.family (P.parts net)) }
-        ensures held { is_some result ≡ holds_hop (choices_at self.old (block_of P.family (P.parts net))) hop }
-        ensures before { IfSome result (λ r. r.0 ≡ match_number (match_of (routes_of self.old) (block_of P.family (P.parts net)))) }
-        ensures after { IfSome result (λ r. r.1 ≡ match_number (match_of (routes_of self.new) (block_of P.family (P.parts net)))) }
-        ensures networks { self.new ≡ without_choice self.old (block_of P.family (P.parts net)) hop }
+        ensures removes { RemovesFrom self.old (block_of P.family (P.parts net)) hop result self.new }
         ensures side { IsFamilyTable P.family self.new }
     {
         let choices = self.networks.get(&net)?;

@@ -9,7 +9,7 @@ ghost use Rattle.prefix_trie.specs.declared.refused.Refused.TheVariants.{Memory}
 ghost use Rattle.route_choices.specs.Choices.{holds_hop, is_one_too_many};
 ghost use Rattle.route_choices.specs.Hops.{IsHop};
 ghost use Rattle.route_laws.specs.Bounds.{excess};
-ghost use Rattle.route_table.specs.InnerFamilyTables.{IsFamilyTable};
+ghost use Rattle.route_table.specs.InnerFamilyTables.{AddsTo, IsFamilyTable, RemovesFrom};
 ghost use Rattle.route_table.specs.Tries.{map_of};
 ghost use Rattle.route_laws.specs.Networks.{IsLeaf, IsStoredTable, choices_at, routes_of, with_choice, with_choices, without_choice};
 ghost use Rattle.route_table.specs.Refusals.{IsRefused};
@@ -300,14 +300,8 @@ impl RouteTable {
         pref: u16,
     ) -> Result<(Option<u32>, Option<u32>, bool), AddRefused>
         requires { IsBlock (block net) }
-        ensures before { IfOk result (λ r. r.0 ≡ match_number (match_of (routes_of self.old) (block net))) }
-        ensures after { IfOk result (λ r. r.1 ≡ match_number (match_of (routes_of self.new) (block net))) }
-        ensures leaf { IfOk result (λ r. IsTrue r.2 ↔ IsNewLeaf self.old self.new (block net)) }
-        ensures networks { OnOk result (self.new ≡ with_choice self.old (block net) (record { hop = hop; pref = pref })) }
-        ensures room { OnOk result (is_one_too_many (choices_at self.old (block net)) hop ≡ false) }
+        ensures adds { AddsTo self.old (block net) (record { hop = hop; pref = pref }) result self.new }
         ensures tables { IsStoredTable self.old × IsStoredTable self.new }
-        ensures refused { IfErr result (IsRefused (choices_at self.old (block net)) hop) }
-        ensures unchanged { OnErr result (self.new ≡ self.old) }
     {
         match net {
             IpNet::V4(net) => self.v4.add(net, hop, pref),
@@ -318,10 +312,7 @@ impl RouteTable {
     /// Removes the route of this hop from the network, if it has one.
     fn remove_choice(&mut self, net: &IpNet, hop: Hop) -> Option<(Option<u32>, Option<u32>)>
         requires { IsBlock (block net.now) }
-        ensures held { is_some result ≡ holds_hop (choices_at self.old (block net.now)) hop }
-        ensures before { IfSome result (λ r. r.0 ≡ match_number (match_of (routes_of self.old) (block net.now))) }
-        ensures after { IfSome result (λ r. r.1 ≡ match_number (match_of (routes_of self.new) (block net.now))) }
-        ensures networks { self.new ≡ without_choice self.old (block net.now) hop }
+        ensures removes { RemovesFrom self.old (block net.now) hop result self.new }
         ensures tables { IsStoredTable self.old × IsStoredTable self.new }
     {
         match *net {

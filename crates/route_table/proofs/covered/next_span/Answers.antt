@@ -2,7 +2,7 @@ use Rattle.std.proofs.Common.{◌∙◌, refl, sym, ap}
 use Rattle.ipnet_blocks.specs.Blocks.{first, last}
 use Rattle.ipnet.specs.IpNets.{block, net_in}
 use Rattle.route_laws.specs.Tables.{route_of}
-use Rattle.route_table.proofs.GapSteps.{block_in_family, length_of_bits}
+use Rattle.route_table.proofs.Gaps.{block_in_family, length_of_bits}
 use Rattle.route_table.proofs.covered.next_span.Goals as goal
 
 pub returns : goal.returns

@@ -10,8 +10,8 @@ use Rattle.route_table.proofs.covered.FamilyTable+P+1.governs_none.Given as goal
 abbrev pub invariant-loop-len : goal.invariant-loop-len
 invariant-loop-len g l =
     let n = block_of g.P.FamilyNet.family (g.P.FamilyNet.parts l.fn.net) in
-    (l.at ≤ last n) × All (λ r. last r.block ≤ last n) l.inside
-    × (gaps n.len (first n) (last n) (routes_inside (routes_of l.fn.self) n) ≡ gaps n.len l.at (last n) l.inside)
+    (l.at ≤ l.whole.last) × All (λ r. last r.block ≤ l.whole.last) l.inside
+    × (gaps n.len (first n) (last n) (routes_inside (routes_of l.fn.self) n) ≡ gaps n.len l.at l.whole.last l.inside)
 
 abbrev pub decreases-loop-len : goal.decreases-loop-len
 decreases-loop-len g l = length l.inside

@@ -1,8 +1,3 @@
-use Rattle.std.proofs.Common.{◌≡◌, ◌∙◌, ap}
-use Rattle.std.specs.FinMap.{remove}
-use Rattle.ipnet_blocks.specs.Blocks.{bit_string}
-use Rattle.ipnet_blocks.specs.Networks.{block_of}
-use Rattle.route_laws.specs.Networks.{without_stored}
 use Rattle.route_table.proofs.FamilyMap.{is_side}
 use Rattle.route_table.proofs.Stores.{taken_is_stored, taken_side}
 use Rattle.route_table.proofs.family_table.FamilyTable+P+1.remove.Goals as goal
@@ -11,15 +6,15 @@ pub remove-requires : goal.remove-requires
 remove-requires g c = g.met.P.FamilyNet.always_fits c.args.net
 
 pub invariant_of-self : goal.invariant_of-self
-invariant_of-self g c =
-    let b = block_of g.P.FamilyNet.family (g.P.FamilyNet.parts c.args.net) in
-    let gone : c.remove.new.self.entries ≡ remove c.self.inside.networks.entries (bit_string b) = c.remove.ensures.map ∙ ap (remove c.self.inside.networks.entries) (g.met.P.FamilyNet.bits_are c.args.net) in
-    (taken_is_stored b c.requires _ c.self.invariant.0 _ gone, c.remove.ensures.tidy c.self.invariant.1, c.self.invariant.2, c.self.invariant.3)
+invariant_of-self g c = (
+  taken_is_stored _ c.requires _ c.self.invariant.0 _ c.self.view_is _ _ (g.met.P.FamilyNet.bits_are c.args.net) c.remove.ensures.map,
+  c.remove.ensures.tidy c.self.invariant.1,
+  c.self.invariant.2,
+  c.self.invariant.3,
+)
 
-pub returns-clause-networks : goal.returns-clause-networks
-returns-clause-networks g c =
-    let b = block_of g.P.FamilyNet.family (g.P.FamilyNet.parts c.args.net) in
-    taken_side b c.requires _ c.self.invariant.0 _ (c.remove.ensures.map ∙ ap (remove c.self.inside.networks.entries) (g.met.P.FamilyNet.bits_are c.args.net)) ∙ ap (λ T. without_stored T b) c.self.view_is
-
-pub returns-clause-side : goal.returns-clause-side
-returns-clause-side g c = is_side _ _ (invariant_of-self g c).0
+pub returns : goal.returns
+returns g c = record {
+  networks = taken_side _ c.requires _ c.self.invariant.0 _ c.self.view_is _ _ (g.met.P.FamilyNet.bits_are c.args.net) c.remove.ensures.map;
+  side = is_side _ _ (invariant_of-self g c).0;
+}

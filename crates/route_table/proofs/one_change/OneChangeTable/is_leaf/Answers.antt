@@ -1,6 +1,6 @@
 use Rattle.std.proofs.Common.{◌≡◌, ◌↔◌, List, Bool, arith, refl, subst, true}
 use Rattle.ipnet_blocks.specs.BitStrings.{begins}
-use Rattle.route_table.proofs.OneChange.{leaf_long, leaf_short}
+use Rattle.route_table.proofs.Asked.{leaf_long, leaf_short}
 use Rattle.route_table.proofs.one_change.OneChangeTable.is_leaf.Goals as goal
 
 pub returns-then-len-prefix_len : goal.returns-then-len-prefix_len

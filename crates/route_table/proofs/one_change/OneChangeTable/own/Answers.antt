@@ -1,5 +1,5 @@
 use Rattle.std.proofs.Common.{◌∙◌, arith}
-use Rattle.route_table.proofs.OneChange.{own_other, own_told}
+use Rattle.route_table.proofs.Asked.{own_other, own_told}
 use Rattle.route_table.proofs.one_change.OneChangeTable.own.Goals as goal
 
 pub returns-then-len-prefix_len : goal.returns-then-len-prefix_len

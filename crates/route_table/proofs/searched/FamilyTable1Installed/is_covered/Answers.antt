@@ -2,7 +2,8 @@ use Rattle.std.proofs.Common.{◌≤◌, length, sym, subst}
 use Rattle.ipnet_blocks.specs.Blocks.{IsBlock}
 use Rattle.route_laws.specs.Networks.{routes_of}
 use Rattle.route_table.specs.InnerGoverning.{GovernsNone}
-use Rattle.route_table.proofs.Holes.{block_of_bits, covered_is, routes_in_family}
+use Rattle.route_table.proofs.Holes.{block_of_bits, covered_is}
+use Rattle.route_table.proofs.FamilyTables.{routes_in_family}
 use Rattle.route_table.proofs.Strings.{block_at_is_block}
 use Rattle.route_laws.proofs.Networks.{routes_are_table}
 use Rattle.route_table.proofs.searched.FamilyTable1Installed.is_covered.Goals as goal

@@ -1,10 +1,6 @@
-use Rattle.std.proofs.Common.{◌≡◌, ◌∙◌, ◌-◌, ◌<◌, List, Bool, Some, None, length, take, ap, arith, subst}
-use Rattle.nearest_table.specs.Blocks.{around}
+use Rattle.std.proofs.Common.{◌≡◌, ◌∙◌, ◌-◌, ◌<◌, Some, length, take, ap, arith}
 use Rattle.route_choices.specs.Hops.{number_of}
-use Rattle.route_laws.specs.Networks.{routes_of}
-use Rattle.route_table.specs.InnerLeast.{entries_of}
 use Rattle.route_table.proofs.Asked.{none_around, one_around}
-use Rattle.trie_core.specs.Search.{IsLongest, NoBeginning}
 use Rattle.route_table.proofs.searched.FamilyTable1Table.around.Goals as goal
 
 pub returns-in_err-choices : goal.returns-in_err-choices
@@ -13,9 +9,7 @@ returns-in_err-choices g c =
     let l : c.in_ok-len.len ≡ length s - 1 = omega (arith, c.in_ok-len.ensures, c.len.ensures) in
     let some : 0 < length s = omega (arith, c.in_ok-len.ensures, c.len.ensures) in
     let up = c.truncated-parent.ensures.bits ∙ (λ i. take (l i) (c.prefix_of.ensures.bits i)) in
-    c.from_residual-in_err-choices.ensures
-    ∙ none_around g.P.FamilyNet.family c.self.inside.networks.entries s some (subst (λ (q : List Bool). NoBeginning c.self.inside.networks.entries q) up c.in_err-choices.ensures)
-    ∙ ap (λ T. around s None (entries_of (routes_of T))) c.self.view_is
+    c.from_residual-in_err-choices.ensures ∙ none_around g.P.FamilyNet.family _ _ c.self.view_is s c.self.invariant.0 c.requires some _ up c.in_err-choices.ensures
 
 pub returns : goal.returns
 returns g c =
@@ -23,7 +17,5 @@ returns g c =
     let l : c.in_ok-len.len ≡ length s - 1 = omega (arith, c.in_ok-len.ensures, c.len.ensures) in
     let some : 0 < length s = omega (arith, c.in_ok-len.ensures, c.len.ensures) in
     let up = c.truncated-parent.ensures.bits ∙ (λ i. take (l i) (c.prefix_of.ensures.bits i)) in
-    let found = subst (λ (q : List Bool). IsLongest c.self.inside.networks.entries q c.in_ok-choices.field-0-0 c.in_ok-choices.choices.now) up c.in_ok-choices.ensures in
     ap Some (c.number.ensures.number ∙ (λ i. number_of ((c.best-hop.ensures i).0)))
-    ∙ one_around g.P.FamilyNet.family c.self.inside.networks.entries s some c.in_ok-choices.field-0-0 c.in_ok-choices.choices.now found
-    ∙ ap (λ T. around s None (entries_of (routes_of T))) c.self.view_is
+    ∙ one_around g.P.FamilyNet.family _ _ c.self.view_is s c.self.invariant.0 c.requires some _ up c.in_ok-choices.field-0-0 c.in_ok-choices.choices.now c.in_ok-choices.ensures

@@ -9,5 +9,5 @@ pub returns-clause-unchanged : goal.returns-clause-unchanged
 returns-clause-unchanged c none =
     let T = c.args.self.now in
     let b = block c.cleared.result in
-    let lacks = none_of (choices_at T b) c.args.hop (sym c.remove_choice.ensures.held ∙ ap is_some none) in
-    c.remove_choice.ensures.networks ∙ del_none T b c.args.hop c.remove_choice.ensures.tables.0 c.cleared.ensures.is_block lacks
+    let lacks = none_of (choices_at T b) c.args.hop (sym c.remove_choice.ensures.removes.held ∙ ap is_some none) in
+    c.remove_choice.ensures.removes.networks ∙ del_none T b c.args.hop c.remove_choice.ensures.tables.0 c.cleared.ensures.is_block lacks

@@ -4,7 +4,7 @@ use Rattle.ipnet_blocks.specs.Blocks.{Block}
 use Rattle.ipnet_blocks.specs.Maximal.{IsMaximal}
 use Rattle.route_laws.specs.Networks.{IsLeaf, routes_of}
 use Rattle.route_laws.specs.Tables.{Governed}
-use Rattle.route_table.proofs.Leaves.{leaf_governs}
+use Rattle.route_table.proofs.FamilyTables.{leaf_governs}
 use Rattle.route_table.proofs.table.RouteTable.is_leaf.Goals as goal
 
 pub returns-clause-leaf : goal.returns-clause-leaf
