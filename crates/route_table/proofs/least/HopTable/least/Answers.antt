@@ -4,6 +4,3 @@ use Rattle.route_table.proofs.least.HopTable.least.Goals as goal
 
 pub least_of-requires : goal.least_of-requires
 least_of-requires c = (hop_at (routes_of c.args.self.now), c.flat-flat.ensures.flat)
-
-pub returns-clause-least : goal.returns-clause-least
-returns-clause-least c = c.least_of.ensures.least (hop_at (routes_of c.args.self.now)) c.flat-flat.ensures.flat
