@@ -11,12 +11,10 @@ pub mod FamilyTables
 pub mod PaintedRuns
 pub mod Openings
 pub mod Painted
-pub mod RouteSpans
 pub mod RunSteps
 pub mod Closings
 pub mod Shortcuts
 pub mod FlatRuns
-pub mod Flattenings
 pub mod HopRuns
 pub mod Owned
 pub mod FlatPieces

@@ -1,5 +1,6 @@
 -- A table whose addresses of one network got one hop, by what the routes outside hand down.
-use Rattle.std.proofs.Common.{◌≡◌, ◌≢◌, ℕ, ◌<◌, ◌==◌, true, false, not, cond, List, Option, Some, None, refl, sym, ap, ◌∙◌}
+use Rattle.std.proofs.Common.{◌≡◌, ◌≢◌, ℕ, ◌<◌, ◌==◌, true, false, not, cond, List, Option, Some, None, refl, sym, ap, ◌∙◌, arith}
+use Rattle.std.proofs.lemmas.Grind.{common_steps}
 use Rattle.std.specs.Option.{option_eq, option_map}
 use Rattle.ipnet_blocks.specs.Blocks.{Block, IsBlock, is_inside, parent}
 use Rattle.ipnet.specs.IpNets.{block, network_at, parts}
@@ -19,12 +20,10 @@ use Rattle.route_laws.proofs.Ordered.{not_cases}
 
 -- the number at a match, by the item of the match
 pub number_of_none : (m : Option Route) → None ≡ option_map item_of m → match_number m ≡ None
-number_of_none None e = refl
-number_of_none (Some r) e = absurd (cc)
+number_of_none m e = grind (arith, common_steps)
 
 pub number_of_item : (m : Option Route) (n : IpNet) (h : Hop) (p : ℕ) → Some (n, h, p) ≡ option_map item_of m → number_of h ≡ match_number m
-number_of_item None n h p e = absurd (cc)
-number_of_item (Some r) n h p e = let i : (n, h, p) ≡ item_of r = cc in ap (λ (x : IpNet × Hop × ℕ). number_of x.1) i
+number_of_item m n h p e = grind (arith, common_steps)
 
 pub tests_same : (o p : Option ℕ) → option_eq (λ j k. j == k) o p ≡ same_number o p
 tests_same None None = refl

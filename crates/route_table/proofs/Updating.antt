@@ -1,12 +1,11 @@
 -- Changes as a table, the block around them, and the operations of edits, one after another.
-use Rattle.std.proofs.Common.{◌≡◌, ℕ, ◌+◌, ◌<◌, ◌≤◌, ◌⊎◌, inl, inr, ⊎_elim, Bool, true, List, [], ◌∷◌, ◌++◌, All, Option, Some, None, length, map, take, refl, sym, ap, ◌∙◌, subst, not, append_assoc, append-nil, slice_index_or, reverse, arith}
-use Rattle.prefix_trie.proofs.Within.{begins_itself}
+use Rattle.std.proofs.Common.{◌≡◌, ℕ, ◌+◌, ◌<◌, ◌≤◌, ◌⊎◌, inl, inr, ⊎_elim, Bool, true, List, [], ◌∷◌, ◌++◌, All, Option, Some, None, length, map, take, refl, sym, ap, ◌∙◌, subst, not, append_assoc, append-nil, slice_index_or, reverse}
 use Rattle.nearest_table.proofs.TreeEdits.{installed-append, removed-append}
-use Rattle.std.proofs.lemmas.List.Elements.{All-push}
-use Rattle.std.proofs.lemmas.List.{map-append, reverse-append, take_more}
-use Rattle.ipnet_addr.specs.Addresses.{Family, Ipv4, Ipv6, width}
-use Rattle.ipnet_addr.proofs.Members.{In, In-cases, In-left}
-use Rattle.ipnet_addr.proofs.Ascending.{All-from_In, In-from_All}
+use Rattle.std.proofs.lemmas.List.Elements.{All-append, All-cons, All-nil, All-push}
+use Rattle.std.proofs.lemmas.List.{map-append, map_more, reverse-append, take_more}
+use Rattle.ipnet_addr.specs.Addresses.{Family, width}
+use Rattle.ipnet_addr.proofs.Members.{In}
+use Rattle.ipnet_addr.proofs.Ascending.{All-from_In}
 use Rattle.ipnet_blocks.specs.BitStrings.{begins}
 use Rattle.ipnet_blocks.specs.Blocks.{IsBlock, bit_string}
 use Rattle.ipnet_blocks.specs.Networks.{IsTruncated, Network}
@@ -22,19 +21,21 @@ use Rattle.route_choices.specs.Hops.{IsHop, hop_from}
 use Rattle.route_choices.specs.declared.hop.Hop.{Hop}
 use Rattle.route_choices.proofs.Kept.{In-from_filter, In-map}
 use Rattle.route_laws.specs.LeastTables.{routes_for}
-use Rattle.route_laws.specs.Operations.{Operation, Install, Remove, after, after_all, installs}
+use Rattle.route_laws.specs.Operations.{Install, Remove, after, after_all, installs}
 use Rattle.route_laws.specs.Overwritten.{overwritten}
 use Rattle.route_laws.specs.Painted.{AreChanges}
-use Rattle.route_laws.specs.Tables.{Route, route_of}
+use Rattle.route_laws.specs.Tables.{Route}
 use Rattle.route_table.specs.InnerLeast.{entry_of, entries_of}
 use Rattle.route_table.specs.InnerFamilyTables.{block_at}
 use Rattle.route_table.specs.InnerUpdates.{AddsInstalls, AddsRemoves, AreTruncated, AreWithin, GivesPath, blocks_in, installed_route, overwritten_all, routes_in}
 use Rattle.route_table.specs.Operations.{network_of, operation_of}
 use Rattle.route_table.specs.declared.between.Operation as Given
 use Rattle.route_table.specs.declared.between.Operation.TheVariants as One
+use Rattle.route_laws.proofs.Between.{after-append}
 use Rattle.route_laws.proofs.NetworksAt.{of_network_at}
 use Rattle.route_table.proofs.Asked.{longest_none}
-use Rattle.route_table.proofs.BetweenSteps.{is_truncated}
+use Rattle.route_table.proofs.BetweenSteps.{is_truncated, route_for, routes_more}
+use Rattle.route_table.proofs.FamilyBits.{lengths}
 use Rattle.route_table.proofs.Strings.{network_of_string}
 use Rattle.trie_core.specs.Bits.{number_from}
 
@@ -44,45 +45,21 @@ over_more : (M rs : List Route) (r : Route) → overwritten_all M (rs ++ r ∷ [
 over_more M [] r = refl
 over_more M (s ∷ rs) r = over_more (overwritten M s) rs r
 
-abbrev route_for : IpNet × Hop → Route
-route_for p = route_of p.0 p.1 default_preference
-
-routes_more : (xs : List (IpNet × Hop)) (i : ℕ) (p : IpNet × Hop) → i < length xs → p ≡ slice_index_or xs i p → routes_for (take (i + 1) xs) ≡ routes_for (take i xs) ++ route_for p ∷ []
-routes_more xs i p l is = ap routes_for (take_more xs i p l ∙ ap (λ q. take i xs ++ q ∷ []) (sym is)) ∙ map-append route_for (take i xs) (p ∷ [])
-
-pub over_next : (xs : List (IpNet × Hop)) (i : ℕ) (p : IpNet × Hop) → i < length xs → p ≡ slice_index_or xs i p → (M N : List Route) → M ≡ overwritten_all [] (routes_for (take i xs)) → N ≡ overwritten M (route_for p)
-    → N ≡ overwritten_all [] (routes_for (take (i + 1) xs))
-over_next xs i p l is M N m n = n ∙ ap (λ K. overwritten K (route_for p)) m ∙ sym (ap (overwritten_all []) (routes_more xs i p l is) ∙ over_more [] (routes_for (take i xs)) (route_for p))
+pub over_next : (xs : List (IpNet × Hop)) (i : ℕ) (p : IpNet × Hop) → i < length xs → p ≡ slice_index_or xs i p → overwritten (overwritten_all [] (routes_for (take i xs))) (route_for p) ≡ overwritten_all [] (routes_for (take (i + 1) xs))
+over_next xs i p l is = sym (ap (overwritten_all []) (routes_more xs i p l is) ∙ over_more [] (routes_for (take i xs)) (route_for p))
 
 pub no_changes : AreChanges []
-no_changes = record { blocks = All-from_In (λ (r : Route). IsBlock r.block) [] (λ r i. absurd i); hops = All-from_In (λ (r : Route). IsHop r.hop) [] (λ r i. absurd i) }
+no_changes = record { blocks = All-nil (λ (r : Route). IsBlock r.block); hops = All-nil (λ (r : Route). IsHop r.hop) }
 
 pub changes_next : (xs : List (IpNet × Hop)) (i : ℕ) (p : IpNet × Hop) → i < length xs → p ≡ slice_index_or xs i p → AreChanges (routes_for (take i xs)) → IsBlock (block p.0) → IsHop p.1 → AreChanges (routes_for (take (i + 1) xs))
-changes_next xs i p l is c b h = subst AreChanges (sym (routes_more xs i p l is)) (record {
+changes_next xs i p l is c b h = rw (routes_more xs i p l is) (record {
   blocks = All-push (λ (r : Route). IsBlock r.block) (routes_for (take i xs)) (route_for p) c.blocks b;
   hops = All-push (λ (r : Route). IsHop r.hop) (routes_for (take i xs)) (route_for p) c.hops h;
 })
 
 -- ---- the block around
 
--- all of these routes have strings that the block begins
-abbrev pub AreBegun : List Bool → List Route → Type 0
-AreBegun b M = (r : Route) → In r M → begins b (bit_string r.block) ≡ true
-
-pub begun_inside : (w : ℕ) (b : List Bool) (M : List Route) → AreBegun b M → AreInside w b (entries_of M)
-begun_inside w b M all x l out = longest_none (entries_of M) x (λ q i e.
-    let t = In-map entry_of M q i in
-    let f : begins b q.0 ≡ true = ap (λ (p : List Bool × Option ℕ). begins b p.0) t.2 ∙ all t.0 t.1 in
-    let g = sym out ∙ begins_through b q.0 x f e in
-    cc)
-
 -- what is left of the routes of a side, when one more was looked at
-pub begun_first : (f : Family) (M left : List Route) (s : List Bool) → GivesPath f M (Some s) left → (r : Route) → In r M → (begins s (bit_string r.block) ≡ true) ⊎ In r left
-begun_first f M left s g r i = ⊎_elim
-    (λ e. inl (subst (λ t. begins s t ≡ true) (sym (ap (λ (q : Route). bit_string q.block) e ∙ g.2)) (begins_itself s)))
-    (λ j. inr j)
-    (subst (λ l. In r l) g.1 i)
-
 pub begun_next : (f : Family) (old new : List Bool) (M rest left : List Route) (s : List Bool) → GivesPath f rest (Some s) left → begins new old ≡ true → begins new s ≡ true
     → ((r : Route) → In r M → (begins old (bit_string r.block) ≡ true) ⊎ In r rest) → (r : Route) → In r M → (begins new (bit_string r.block) ≡ true) ⊎ In r left
 begun_next f old new M rest left s g wide here so_far r i = ⊎_elim
@@ -91,21 +68,21 @@ begun_next f old new M rest left s g wide here so_far r i = ⊎_elim
     (so_far r i)
 
 -- all were looked at
-pub begun_all : (b : List Bool) (M left : List Route) → left ≡ [] → ((r : Route) → In r M → (begins b (bit_string r.block) ≡ true) ⊎ In r left) → AreBegun b M
-begun_all b M left e all r i = ⊎_elim (λ h. h) (λ j. absurd (subst (λ l. In r l) e j)) (all r i)
+pub begun_inside : (w : ℕ) (b : List Bool) (M left : List Route) → left ≡ [] → ((r : Route) → In r M → (begins b (bit_string r.block) ≡ true) ⊎ In r left) → AreInside w b (entries_of M)
+begun_inside w b M left none all x l out = longest_none (entries_of M) x (λ q i e.
+    let t = In-map entry_of M q i in
+    let begun = ⊎_elim (λ h. h) (λ j. absurd (subst (λ l. In t.0 l) none j)) (all t.0 t.1) in
+    let f : begins b q.0 ≡ true = ap (λ (p : List Bool × Option ℕ). begins b p.0) t.2 ∙ begun in
+    let g = sym out ∙ begins_through b q.0 x f e in
+    cc)
 
 -- ---- operations one by one
-
-pub after_more : (M : List Route) (os : List Operation) (o : Operation) → after_all M (os ++ o ∷ []) ≡ after (after_all M os) o
-after_more M [] o = refl
-after_more M (p ∷ os) o = after_more (after M p) os o
 
 pub after_next : (M : List Route) (xs : List Given.Operation) (i : ℕ) (o : Given.Operation) → i < length xs → o ≡ slice_index_or xs i o
     → after_all M (map operation_of (take (i + 1) xs)) ≡ after (after_all M (map operation_of (take i xs))) (operation_of o)
 after_next M xs i o l is =
-    ap (λ ys. after_all M (map operation_of ys)) (take_more xs i o l ∙ ap (λ p. take i xs ++ p ∷ []) (sym is))
-    ∙ ap (after_all M) (map-append operation_of (take i xs) (o ∷ []))
-    ∙ after_more M (map operation_of (take i xs)) (operation_of o)
+    ap (after_all M) (map_more operation_of xs i o l ∙ ap (λ p. map operation_of (take i xs) ++ operation_of p ∷ []) (sym is))
+    ∙ after-append M (map operation_of (take i xs)) (operation_of o ∷ [])
 
 -- ---- operations of edits
 
@@ -128,13 +105,12 @@ module _ (f : Family) where
         ap (λ l. installs (reverse l)) (routes-append es gs)
         ∙ ap installs (reverse-append (routes_in f es) (routes_in f gs))
         ∙ map-append Install (reverse (routes_in f gs)) (reverse (routes_in f es))));
-    hops = subst (λ rs. All (λ (r : Route). IsHop r.hop) rs) (sym (routes-append es gs)) (All-from_In (λ (r : Route). IsHop r.hop) (routes_in f es ++ routes_in f gs)
-        (λ r i. ⊎_elim (In-from_All (λ (r : Route). IsHop r.hop) (routes_in f es) b.hops r) (In-from_All (λ (r : Route). IsHop r.hop) (routes_in f gs) a.hops r) (In-cases r (routes_in f es) (routes_in f gs) i)));
+    hops = rw (routes-append es gs) (All-append (λ (r : Route). IsHop r.hop) (routes_in f es) (routes_in f gs) b.hops a.hops);
     truncated = λ t. b.truncated (a.truncated t);
   }
 
   pub no_installs : (os : List Given.Operation) → AddsInstalls f [] os os
-  no_installs os = record { operations = sym (append-nil (map operation_of os)); hops = All-from_In (λ (r : Route). IsHop r.hop) [] (λ r i. absurd i); truncated = λ t. t }
+  no_installs os = record { operations = sym (append-nil (map operation_of os)); hops = All-nil (λ (r : Route). IsHop r.hop); truncated = λ t. t }
 
   -- the removes of edits, and then those of the edits behind
   pub removes_join : (es gs : List Edit) (old mid new : List Given.Operation) → AddsRemoves f es old mid → AddsRemoves f gs mid new → AddsRemoves f (es ++ gs) old new
@@ -150,52 +126,33 @@ module _ (f : Family) where
   removes_next xs i e l is old mid new a b =
       subst (λ es. AddsRemoves f es old new) (sym (take_more xs i e l ∙ ap (λ d. take i xs ++ d ∷ []) (sym is))) (removes_join (take i xs) (e ∷ []) old mid new a b)
 
-  -- one operation more
-  truncated_more : (os : List Given.Operation) (o : Given.Operation) → IsTruncated (family (network_of o)) (parts (network_of o)) → AreTruncated os → AreTruncated (os ++ o ∷ [])
-  truncated_more os o t all = All-push (λ (p : Given.Operation). IsTruncated (family (network_of p)) (parts (network_of p))) os o all t
-
   at_block : (b : List Bool) (net : IpNet) → net ≡ network_at (block_at f b) → block net ≡ block_at f b
   at_block b net n = ap block n ∙ of_network_at (block_at f b)
 
-  bare_bits : (b : List Bool) (net : IpNet) → net ≡ network_at (block_at f b) → IsTruncated (family net) (parts net)
-  bare_bits b net n = is_truncated net (n ∙ ap network_at (sym (at_block b net n)))
+  -- one operation more
+  truncated_more : (os : List Given.Operation) (o : Given.Operation) (b : List Bool) → network_of o ≡ network_at (block_at f b) → AreTruncated os → AreTruncated (os ++ o ∷ [])
+  truncated_more os o b n all = All-push (λ (p : Given.Operation). IsTruncated (family (network_of p)) (parts (network_of p))) os o all (is_truncated (network_of o) (n ∙ ap network_at (sym (at_block b (network_of o) n))))
 
   pub install_added : (b : List Bool) (k : Option ℕ) (net : IpNet) (hop : Hop) (os : List Given.Operation) → net ≡ network_at (block_at f b) → hop ≡ hop_from k → IsHop hop
       → AddsInstalls f ((b, Some k) ∷ []) os (os ++ One.Install net hop ∷ [])
   install_added b k net hop os n h ok = record {
     operations = map-append operation_of os (One.Install net hop ∷ []) ∙ (λ i. map operation_of os ++ Install (record { block = at_block b net n i; hop = h i; pref = default_preference }) ∷ []);
-    hops = All-from_In (λ (r : Route). IsHop r.hop) (routes_in f ((b, Some k) ∷ [])) (λ r i. ⊎_elim (λ q. subst (λ (r : Route). IsHop r.hop) (sym q) (subst IsHop h ok)) (λ j. absurd j) i);
-    truncated = truncated_more os (One.Install net hop) (bare_bits b net n);
+    hops = All-cons (λ (r : Route). IsHop r.hop) (installed_route f (b, k)) [] (subst IsHop h ok) (All-nil (λ (r : Route). IsHop r.hop));
+    truncated = truncated_more os (One.Install net hop) b n;
   }
 
   pub remove_added : (b : List Bool) (net : IpNet) (os : List Given.Operation) → net ≡ network_at (block_at f b) → AddsRemoves f ((b, None) ∷ []) os (os ++ One.Remove net ∷ [])
   remove_added b net os n = record {
     operations = map-append operation_of os (One.Remove net ∷ []) ∙ (λ i. map operation_of os ++ Remove (at_block b net n i) ∷ []);
-    truncated = truncated_more os (One.Remove net) (bare_bits b net n);
+    truncated = truncated_more os (One.Remove net) b n;
   }
-
-pub none_truncated : AreTruncated []
-none_truncated = All-from_In (λ (o : Given.Operation). IsTruncated (family (network_of o)) (parts (network_of o))) [] (λ o i. absurd i)
-
-pub within_front : (w : ℕ) (es front : List Edit) (e : Edit) → es ≡ front ++ e ∷ [] → AreWithin w es → AreWithin w front
-within_front w es front e is all = All-from_In (λ (d : Edit). length d.0 ≤ w) front
-    (λ d i. In-from_All (λ (d : Edit). length d.0 ≤ w) es all d (subst (λ l. In d l) (sym is) (In-left d front (e ∷ []) i)))
 
 -- the network of a key that is made of bits
 pub network_of_bits : (f : Family) {K : Type 0} (of_bits : List Bool → K) (parts_in : K → Network) (parts_are : (s : List Bool) → parts_in (of_bits s) ≡ record { number = number_from (width f) s; len = length s })
     → (s : List Bool) → length s ≤ width f → (k : K) → k ≡ of_bits s → net_in f (parts_in k) ≡ network_at (block_at f s)
 network_of_bits f of_bits parts_in parts_are s h k e = ap (λ j. net_in f (parts_in j)) e ∙ ap (net_in f) (parts_are s ∙ network_of_string f s h)
 
-pub width_is_short : (f : Family) → width f ≤ 128
-width_is_short Ipv4 = omega arith
-width_is_short Ipv6 = omega arith
-
 -- ---- the blocks of edits
-
-within_table : (w : ℕ) (t : List (List Bool × Option ℕ)) → IsBitTable w t → (r : List Bool × Option ℕ) → In r t → length r.0 ≤ w
-within_table w [] ok r i = absurd i
-within_table w (q ∷ t) ok r (inl e) = subst (λ (p : List Bool × Option ℕ). length p.0 ≤ w) (sym e) ok.0
-within_table w (q ∷ t) ok r (inr i) = within_table w t ok.2 r i
 
 from_blocks : (t : List (List Bool × Option ℕ)) (b : List Bool) → In b (blocks t) → (r : List Bool × Option ℕ) × In r t × (b ≡ r.0)
 from_blocks [] b i = absurd i
@@ -211,7 +168,7 @@ edit_within w ((b, None) ∷ es) p q e (inr i) = edit_within w es p (λ c j. q c
 
 pub edits_within : (w : ℕ) (cs t : List (List Bool × Option ℕ)) (es : List Edit) → IsBitTable w t → MakeNearest w cs t es → AreWithin w es
 edits_within w cs t es ok m = All-from_In (λ (e : Edit). length e.0 ≤ w) es (edit_within w es
-    (λ r i. within_table w m.table (m.nearest.gives).table r (In-from_filter (λ r. not (has t r)) m.table r (subst (λ l. In r l) m.edits.installs i)).0)
+    (λ r i. lengths w m.table (m.nearest.gives).table r (In-from_filter (λ r. not (has t r)) m.table r (subst (λ l. In r l) m.edits.installs i)).0)
     (λ b i. let s = from_blocks (surplus_routes t m.table) b (subst (λ l. In b l) m.edits.removes i) in
-    let l = within_table w t ok s.0 (In-from_filter (λ r. not (stores m.table r.0)) t s.0 s.1).0 in
+    let l = lengths w t ok s.0 (In-from_filter (λ r. not (stores m.table r.0)) t s.0 s.1).0 in
     subst (λ c. length c ≤ w) (sym s.2) l))

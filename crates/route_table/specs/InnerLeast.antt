@@ -1,6 +1,6 @@
 -- Least tables of one family, as lists of bit strings.
 use Rattle.std.specs.Prelude.{◌≡◌, ℕ, Bool, List, All, Option, filter, length, map}
-use Rattle.ipnet_addr.specs.Addresses.{Family, Ipv4, Ipv6, Address, width, same_family}
+use Rattle.ipnet_addr.specs.Addresses.{Family, Address, width, same_family}
 use Rattle.ipnet_blocks.specs.Blocks.{bit_string}
 use Rattle.ipnet_blocks.specs.Networks.{Network, IsTruncated}
 use Rattle.ipnet.specs.IpNets.{family, parts, net_in}
@@ -13,7 +13,7 @@ use Rattle.trie_core.specs.Bits.{number_from}
 use Rattle.route_choices.specs.Hops.{hop_from, number_of}
 use Rattle.route_choices.specs.declared.hop.Hop.{Hop}
 use Rattle.route_laws.specs.Flats.{Piece}
-use Rattle.route_laws.specs.LeastTables.{IsLeast, routes_for}
+use Rattle.route_laws.specs.LeastTables.{routes_for}
 use Rattle.route_laws.specs.Tables.{Route, IsTable}
 
 -- a route as the bits of its block, and its hop
@@ -53,8 +53,3 @@ pub record AreLeast (f : Family) (ps : List (List Bool × ℕ)) (rs : List (IpNe
   pub in_family : All (λ r. family r.0 ≡ f) rs
   pub truncated : All (λ r. IsTruncated (family r.0) (parts r.0)) rs
   pub least : bits.IsLeastTable (width f) (piece_hop ps) (entries_of (routes_for rs))
-
--- routes of both families that are a least table for the hops of the pieces of both
-pub record AreLeastOf (ps qs : List (List Bool × ℕ)) (rs : List (IpNet × Hop)) : Type 0 where
-  pub least : (h : Address → Option ℕ) → ArePieces Ipv4 h ps → ArePieces Ipv6 h qs → IsLeast h (routes_for rs)
-  pub truncated : All (λ r. IsTruncated (family r.0) (parts r.0)) rs

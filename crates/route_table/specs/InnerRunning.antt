@@ -51,7 +51,6 @@ pub record IsOpen (at end : ℕ) (r : RouteSpan) : Type 0 where
   pub begun : r.first ≤ at
   pub ends : at ≤ r.last + 1
   pub fits : r.last ≤ end
-  pub long : r.len ≤ 128
 
 -- a route begins at a place or later
 pub record IsComing (at end : ℕ) (r : RouteSpan) : Type 0 where
@@ -66,7 +65,8 @@ pub record ArePlaced (stack coming : List RouteSpan) (at end : ℕ) : Type 0 whe
   pub opened : All (IsOpen at end) stack
   pub nested : AllPairs (λ a b. (b.last ≤ a.last) × (a.len < b.len)) stack
   pub coming' : All (IsComing at end) coming
-  pub follow : AllPairs IsApartOrInside (stack ++ coming)
+  pub apart : All (λ r. All (IsApartOrInside r) coming) stack
+  pub follow : AllPairs IsApartOrInside coming
 
 -- the current run ends just before the place
 abbrev pub IsAtHand : Option Run → Bool → ℕ → ℕ → Type 0

@@ -1,7 +1,7 @@
 -- Changes as a table, and the operations of edits of both families.
-use Rattle.std.specs.Prelude.{◌≡◌, ◌≤◌, ℕ, Bool, List, [], ◌∷◌, ◌++◌, All, MatchOption, Option, length, map, reverse}
+use Rattle.std.specs.Prelude.{◌≡◌, ◌≤◌, ℕ, Bool, List, [], ◌∷◌, ◌++◌, All, MatchOption, Option, filter, length, map, reverse}
 use Rattle.ipnet_addr.specs.Addresses.{Family, Ipv4, Ipv6, width}
-use Rattle.ipnet_blocks.specs.Blocks.{Block, bit_string}
+use Rattle.ipnet_blocks.specs.Blocks.{Block, bit_string, family_block, is_inside}
 use Rattle.ipnet_blocks.specs.Networks.{IsTruncated}
 use Rattle.ipnet.specs.IpNets.{family, parts}
 use Rattle.nearest_table.specs.Changed.{MakeNearest}
@@ -11,8 +11,7 @@ use Rattle.route_choices.specs.Hops.{IsHop, hop_from}
 use Rattle.route_laws.specs.Painted.{AreChanges}
 use Rattle.route_laws.specs.Operations.{Operation, Remove, installs}
 use Rattle.route_laws.specs.Overwritten.{overwritten}
-use Rattle.route_laws.specs.Tables.{Route}
-use Rattle.route_table.specs.Given.{AreFamilies}
+use Rattle.route_laws.specs.Tables.{IsTable, Route}
 use Rattle.route_table.specs.InnerLeast.{entries_of}
 use Rattle.route_table.specs.InnerFamilyTables.{block_at}
 use Rattle.route_table.specs.Operations.{network_of, operation_of}
@@ -47,18 +46,19 @@ blocks_in f es = map (block_at f) (removed_in es)
 abbrev pub operations_of : List (List Bool × Option (Option ℕ)) → List (List Bool × Option (Option ℕ)) → List Operation
 operations_of es4 es6 = installs (reverse (routes_in Ipv4 es4 ++ routes_in Ipv6 es6)) ++ map Remove (blocks_in Ipv4 es4 ++ blocks_in Ipv6 es6)
 
--- the edits of each family are those between its installed routes and a nearest table with the hops after its changes
+-- the routes of a family
+abbrev pub in_part : Family → List Route → List Route
+in_part f M = filter (λ r. is_inside r.block (family_block f)) M
+
+-- the edits of a family are those between its installed routes and a nearest table with the hops after its changes
+pub record AreEditsOf (f : Family) (C M : List Route) (es : List (List Bool × Option (Option ℕ))) : Type 0 where
+  pub made : MakeNearest (width f) (entries_of (in_part f C)) (entries_of (in_part f M)) es
+  pub within : AreWithin (width f) es
+
 pub record MakeBoth (C M : List Route) (es4 es6 : List (List Bool × Option (Option ℕ))) : Type 0 where
-  pub changed_v4 : List Route
-  pub changed_v6 : List Route
-  pub installed_v4 : List Route
-  pub installed_v6 : List Route
-  pub changed : AreFamilies C changed_v4 changed_v6
-  pub installed : AreFamilies M installed_v4 installed_v6
-  pub ipv4 : MakeNearest (width Ipv4) (entries_of changed_v4) (entries_of installed_v4) es4
-  pub ipv6 : MakeNearest (width Ipv6) (entries_of changed_v6) (entries_of installed_v6) es6
-  pub within_v4 : AreWithin (width Ipv4) es4
-  pub within_v6 : AreWithin (width Ipv6) es6
+  pub table : IsTable M
+  pub ipv4 : AreEditsOf Ipv4 C M es4
+  pub ipv6 : AreEditsOf Ipv6 C M es6
 
 -- changes of blocks, and the edits of each family that lead to a nearest table with the hops after them
 pub record AreEditsFor (rs M : List Route) (es4 es6 : List (List Bool × Option (Option ℕ))) : Type 0 where

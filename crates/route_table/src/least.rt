@@ -125,7 +125,7 @@ fn plans(alloc: Global, flat: Flat<'_>) -> Result<(Planner<Ipv4Net>, Planner<Ipv
 /// The routes of a least table with the hops of this flat list.
 fn least_routes(alloc: Global, flat: Flat<'_>) -> Result<LeastRoutes, Refused>
     requires { (h : Address → Option ℕ) × IsFlat h flat }
-    ensures least { IfOk result (λ routes. (h : Address → Option ℕ) → IsFlat h flat.entry → IsLeast h (routes_for routes)) }
+    ensures least { (h : Address → Option ℕ) → IsFlat h flat.entry → IfOk result (λ routes. IsLeast h (routes_for routes)) }
     ensures truncated { IfOk result (λ routes. All (λ r. IsTruncated (family r.0) (parts r.0)) routes) }
     ensures memory { IfErr result (λ e. e ≡ Memory) }
 {
@@ -138,7 +138,7 @@ fn least_routes(alloc: Global, flat: Flat<'_>) -> Result<LeastRoutes, Refused>
 /// The routes of a least table with the hops of this flat list, as a list.
 fn least_of(alloc: Global, flat: Flat<'_>) -> Result<Vec<(IpNet, Hop)>, Refused>
     requires { (h : Address → Option ℕ) × IsFlat h flat }
-    ensures least { IfOk result (λ routes. (h : Address → Option ℕ) → IsFlat h flat.entry → IsLeast h (routes_for routes.items)) }
+    ensures least { (h : Address → Option ℕ) → IsFlat h flat.entry → IfOk result (λ routes. IsLeast h (routes_for routes.items)) }
     ensures truncated { IfOk result (λ routes. All (λ r. IsTruncated (family r.0) (parts r.0)) routes.items) }
     ensures memory { IfErr result (λ e. e ≡ Memory) }
 {

@@ -6,7 +6,8 @@ use Rattle.nearest_table.proofs.Puts.{made_none}
 use Rattle.route_laws.specs.Networks.{routes_of}
 use Rattle.route_laws.specs.Tables.{Route}
 use Rattle.route_table.specs.InnerLeast.{entries_of}
-use Rattle.route_table.proofs.Updating.{edits_within, width_is_short}
+use Rattle.route_table.proofs.Painted.{width_is_short}
+use Rattle.route_table.proofs.Updating.{edits_within}
 use Rattle.route_table.proofs.FewestUpdates.{side_bits}
 use Rattle.route_table.proofs.updates.edits_of.Goals as goal
 

@@ -1,6 +1,6 @@
 use Rattle.std.proofs.Common.{arith}
 use Rattle.ipnet_addr.specs.Addresses.{Ipv4, Ipv6}
-use Rattle.route_table.proofs.Flattenings.{table_left, table_right, whole_flat}
+use Rattle.route_table.proofs.FlatRuns.{table_left, table_right, whole_flat}
 use Rattle.route_table.proofs.Painted.{greatest}
 use Rattle.route_table.proofs.flat.Flat.new.Goals as goal
 

@@ -1,4 +1,4 @@
-use Rattle.route_table.proofs.Flattenings.{piece_given, piece_none}
+use Rattle.route_table.proofs.FlatRuns.{piece_given, piece_none}
 use Rattle.route_table.proofs.flat.Pieces.next.Goals as goal
 
 pub returns-in-Some : goal.returns-in-Some

@@ -1,4 +1,4 @@
-use Rattle.route_table.proofs.Flattenings.{flat_of_table, seen_alone}
+use Rattle.route_table.proofs.FlatRuns.{flat_of_table, seen_alone}
 use Rattle.route_table.proofs.flat.RouteTable.flat.Goals as goal
 
 pub new-requires : goal.new-requires

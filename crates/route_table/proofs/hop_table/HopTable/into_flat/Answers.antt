@@ -1,4 +1,4 @@
-use Rattle.route_table.proofs.Flattenings.{flat_of_table, seen_alone}
+use Rattle.route_table.proofs.FlatRuns.{flat_of_table, seen_alone}
 use Rattle.route_table.proofs.FamilyTables.{both_families}
 use Rattle.route_table.proofs.hop_table.HopTable.into_flat.Goals as goal
 

@@ -1,10 +1,6 @@
-use Rattle.std.proofs.lemmas.Result.{IfOk-weaker}
 use Rattle.route_laws.specs.Networks.{routes_of}
 use Rattle.route_laws.specs.Tables.{hop_at}
 use Rattle.route_table.proofs.least.RouteTable.least.Goals as goal
 
 pub least_of-requires : goal.least_of-requires
 least_of-requires c = (hop_at (routes_of c.args.self.now), c.flat.ensures.flat)
-
-pub returns-clause-least : goal.returns-clause-least
-returns-clause-least c = IfOk-weaker c.least_of.result _ _ (λ routes f. f (hop_at (routes_of c.args.self.now)) c.flat.ensures.flat) c.least_of.ensures.least

@@ -9,8 +9,7 @@ use Rattle.route_table.proofs.runs.Runs.open.Goals as goal
 pub push-requires : goal.push-requires
 push-requires g c =
     let w = c.args.self.now in
-    let room = begin_room w c.requires.runs c.args.reach c.requires.next (innermost (w.end, None) w.stack.items).1 refl c.requires.inside in
-    (omega arith, subst (λ rs. length rs < 129) (sym (ap (λ s. s.items) c.advance.ensures.stack)) room)
+    (omega arith, subst (λ rs. length rs < 129) (sym (ap (λ s. s.items) c.advance.ensures.stack)) (begin_room w c.requires.runs c.args.reach c.requires.next c.requires.inside))
 
 pub returns-in-Some : goal.returns-in-Some
 returns-in-Some g c =

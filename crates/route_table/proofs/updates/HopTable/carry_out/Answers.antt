@@ -1,4 +1,4 @@
-use Rattle.std.proofs.Common.{suc, ◌∷◌, ◌++◌, ◌∙◌, refl, sym, ap, subst, arith, take, drop}
+use Rattle.std.proofs.Common.{suc, ◌∷◌, ◌++◌, ◌∙◌, sym, ap, subst, arith, take, drop}
 use Rattle.std.proofs.Math.Seq.{split_at}
 use Rattle.route_laws.specs.Networks.{routes_of}
 use Rattle.route_laws.specs.Operations.{after}
@@ -7,18 +7,12 @@ use Rattle.route_table.proofs.Outcomes.{when_err}
 use Rattle.route_table.proofs.Updating.{after_next}
 use Rattle.route_table.proofs.updates.HopTable.carry_out.Goals as goal
 
-pub loop-operation-init : goal.loop-operation-init
-loop-operation-init c = (c.is_table.ensures, refl)
-
 pub loop-operation-preserved : goal.loop-operation-preserved
 loop-operation-preserved c = (
   c.in_ok-carry_one.ensures.tables.1,
   c.in_ok-carry_one.ensures.routes ∙ ap (λ M. after M (operation_of c.operation-item.result)) c.loop-operation.invariant.1
       ∙ sym (after_next (routes_of c.args.self.now) c.args.operations.now c.loop-operation.operation-index c.operation-item.result (omega arith) c.operation-item.is),
 )
-
-pub returns-in_err-carry_one-clause-tables : goal.returns-in_err-carry_one-clause-tables
-returns-in_err-carry_one-clause-tables c = (c.is_table.ensures, c.in_err-carry_one.ensures.tables.1)
 
 pub returns-in_err-carry_one-clause-first : goal.returns-in_err-carry_one-clause-first
 returns-in_err-carry_one-clause-first c =
@@ -34,6 +28,3 @@ returns-in_err-carry_one-clause-first c =
       routes = ap routes_of same ∙ c.loop-operation.invariant.1;
       new = subst (λ T. IsNewInstall T o) (sym same) c.in_err-carry_one.ensures.absent;
     })
-
-pub returns-clause-tables : goal.returns-clause-tables
-returns-clause-tables c = (c.is_table.ensures, c.loop-operation.invariant.0)
