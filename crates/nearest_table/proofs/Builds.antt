@@ -1,5 +1,5 @@
 -- Plans of blocks, from the changes and the routes inside.
-use Rattle.std.proofs.Common.{◌≡◌, ℕ, zero, suc, ◌-◌, ◌<◌, ◌≤◌, Bool, true, false, List, [], ◌∷◌, ◌++◌, length, replicate, Option, Some, None, MatchOption, refl, sym, ap, ap₂, ◌∙◌, subst, arith, length-append}
+use Rattle.std.proofs.Common.{◌≡◌, ℕ, zero, suc, ◌-◌, ◌<◌, ◌≤◌, Bool, true, false, List, [], ◌∷◌, ◌++◌, length, replicate, Option, Some, None, refl, sym, ap, ap₂, ◌∙◌, subst, arith, length-append}
 use Rattle.std.proofs.Math.ListN.{length-replicate}
 use Rattle.least_table.specs.BestHops.{Any, Of}
 use Rattle.nearest_table.specs.InnerPlans.{HasMore, IsJoined, IsTold, Plans, owned_tree, tree_of}
@@ -10,8 +10,7 @@ use Rattle.least_table.specs.Wholes.{without_own}
 use Rattle.nearest_table.specs.Blocks.{inner, IsCovered, innermost_route}
 use Rattle.nearest_table.specs.Told.{new_hop}
 use Rattle.nearest_table.specs.declared.plans.Plan.{Plan, One, Idle}
-use Rattle.least_table.proofs.Split.{hop-half, IsBitTable-half}
-use Rattle.least_table.proofs.Owns.{IsBitTable-bare, own-bare, half-bare, same_hops}
+use Rattle.least_table.proofs.Split.{hop-half, IsBitTable-half, IsBitTable-bare, own-bare, half-bare, same_hops}
 use Rattle.nearest_table.proofs.TreeEdits.{no_bare}
 
 -- a plan for one function of hops is one for the same
@@ -146,13 +145,6 @@ module _ (W : ℕ) (b : List Bool) (short : length b < W) where
 
       joined : IsPlan (W - length b) (new_hop told old (inner b cs) (inner b t)) (without_own (inner b t)) (tree_of q)
       joined = subst (λ w. IsPlan w (new_hop told old (inner b cs) (inner b t)) (without_own (inner b t)) (tree_of q)) (less false b0 e0) (is.0 (W - length b0) (new_hop told old (inner b cs) (inner b t)) (without_own (inner b t)) plain (own-bare (inner b t)) low high)
-
--- the two results of a block that may need no cut
-pub from_end : (A : Type 0) (P : Plan → Type 0) (o : Option Plan) (p : Plan) → o ≡ Some p → MatchOption o A P → P p
-from_end A P o p e h = subst (λ o. MatchOption o A P) e h
-
-pub not_end : (A : Type 0) (P : Plan → Type 0) (o : Option Plan) → o ≡ None → MatchOption o A P → A
-not_end A P o e h = subst (λ o. MatchOption o A P) e h
 
 pub told_same : (w : ℕ) (told here : Option (Option ℕ)) (old : Option ℕ) (cs t : List (List Bool × Option ℕ)) (p : Plan) → IsBitTable w cs → here ≡ innermost_route told (own cs) → Plans w here old cs t p → Plans w told old cs t p
 told_same w told here old cs t p table e plan = (plan_same w (new_hop here old cs t) (new_hop told old cs t) t (tree_of p) (λ x l. new_same w told old cs t table x ∙ ap (λ o. new_hop o old cs t x) (sym e)) plan.0, plan.1)

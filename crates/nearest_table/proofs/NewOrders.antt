@@ -7,10 +7,8 @@ use Rattle.nearest_table.specs.Plans.{Tree, Stay, Fork, Held, tree_best, IsPlan,
 use Rattle.least_table.specs.Tables.{IsBitTable, half, half_of, own}
 use Rattle.least_table.specs.Wholes.{without_own}
 use Rattle.nearest_table.specs.Blocks.{put}
-use Rattle.least_table.proofs.Split.{joined, own-joined, IsBitTable-half}
-use Rattle.least_table.proofs.Makes.{own_covers}
+use Rattle.least_table.proofs.Split.{joined, own_covers, own-joined, IsBitTable-half, IsBitTable-bare, own-bare}
 use Rattle.least_table.proofs.Orders.{IsInOrder-joined, IsInOrder-with}
-use Rattle.least_table.proofs.Owns.{IsBitTable-bare, own-bare}
 use Rattle.nearest_table.proofs.Trees.{first_best, plain}
 use Rattle.nearest_table.proofs.TreeEdits.{ordered_bare, ordered_half}
 

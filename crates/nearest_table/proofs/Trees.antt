@@ -9,13 +9,10 @@ use Rattle.least_table.specs.Wholes.{without_own, with_own}
 use Rattle.nearest_table.specs.Blocks.{Covers}
 use Rattle.nearest_table.specs.Laws.{PlansLaw}
 use Rattle.nearest_table.specs.Plans.{Tree, Stay, Fork, Held, tree_best, IsPlan, new_table}
-use Rattle.least_table.proofs.Distances.{change}
-use Rattle.least_table.proofs.Halves.{change_same}
-use Rattle.least_table.proofs.Makes.{Makes, Best-stay, distance-self, fork_made, made_nearest, stay_made}
-use Rattle.least_table.proofs.Merges.{Best-fork, first-wanted}
-use Rattle.least_table.proofs.Owns.{own-bare, IsBitTable-bare, GivesHops-with, below, distance-below, distance-with, own_fewest, half-bare}
+use Rattle.least_table.proofs.Distances.{below, change, change_same, distance-below, distance-with, own_law}
+use Rattle.least_table.proofs.Makes.{Makes, Best-fork, Best-stay, distance-self, first-wanted, fork_made, made_nearest, stay_made}
 use Rattle.least_table.proofs.Sets.{one_holds, same_hop-true}
-use Rattle.least_table.proofs.Split.{own-joined, IsBitTable-half}
+use Rattle.least_table.proofs.Split.{GivesHops-with, half-bare, IsBitTable-bare, IsBitTable-half, own-bare, own-joined}
 
 -- ---- blocks whose routes stay
 
@@ -50,7 +47,7 @@ Best-plan w h t (Held k p) table plan =
     let b = Best-plan w h (without_own t) p (IsBitTable-bare w t table) plan.1 in
     record {
       some = (None, refl);
-      needs = λ s. subst (IsLeastDistance w h t s) (omega arith) (own_fewest w h t table k plan.0 s (count p + extra_route (wants (tree_best p) k)) (b.needs k));
+      needs = λ s. subst (IsLeastDistance w h t s) (omega arith) (own_law w h t table k plan.0 s (count p + extra_route (wants (tree_best p) k)) (b.needs k));
     }
 
 -- the first best hop is one of them, and so differs from a hop that isn't
