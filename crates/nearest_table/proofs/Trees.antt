@@ -4,7 +4,7 @@ use Rattle.std.proofs.lemmas.Bool.{false_from_ne_true}
 use Rattle.least_table.specs.BestHops.{Hops, Of, Any, wants, first_best_hop, agree, AreBest}
 use Rattle.least_table.specs.HopSets.{is_same_hop, holds, extra_route, first_hop}
 use Rattle.least_table.specs.Nearest.{IsLeastDistance, distance}
-use Rattle.least_table.specs.Tables.{IsBitTable, half, half_of, matched_hop, hop_inheriting, longest_route, own, passed}
+use Rattle.least_table.specs.Tables.{IsBitTable, half, half_of, hop_inheriting, longest_route, own, passed}
 use Rattle.least_table.specs.Wholes.{without_own, with_own}
 use Rattle.nearest_table.specs.Blocks.{Covers}
 use Rattle.nearest_table.specs.Laws.{PlansLaw}
@@ -18,11 +18,7 @@ use Rattle.least_table.proofs.Split.{GivesHops-with, half-bare, IsBitTable-bare,
 
 -- if an address has a route, the inherited hop doesn't count
 pub covered : (s k : Option ℕ) (t : List (List Bool × Option ℕ)) (x : List Bool) → (longest_route t x ≡ None → ⊥) → hop_inheriting s t x ≡ hop_inheriting k t x
-covered s k t x c = go (longest_route t x) c
-  where
-    go : (m : Option (List Bool × Option ℕ)) → (m ≡ None → ⊥) → matched_hop s m ≡ matched_hop k m
-    go None c = absurd (c refl)
-    go (Some r) c = refl
+covered s k t x c = grind (arith, c)
 
 stays_any : (w : ℕ) (h : List Bool → Option ℕ) (t : List (List Bool × Option ℕ)) → IsBitTable w t → (k : Option ℕ) → ((x : List Bool) → length x ≡ w → h x ≡ hop_inheriting k t x) → Covers w t → (s : Option ℕ) → Makes w h s t t 0
 stays_any w h t table k same c s = record { gives = record { table = table; same = λ x l. covered s k t x (c x l) ∙ sym (same x l) }; far = distance-self w t table }

@@ -2,7 +2,7 @@ use Rattle.std.proofs.Common.{rules, arith, ◌-◌, ◌<◌, ◌∙◌, ap, len
 use Rattle.std.proofs.lemmas.Result.{IfOk-weaker}
 use Rattle.nearest_table.specs.InnerPlans.{Plans}
 use Rattle.nearest_table.specs.Blocks.{inner, innermost_route}
-use Rattle.nearest_table.proofs.Builds.{cut_short, fits_half, fork_plan, less, table_half, told_same}
+use Rattle.nearest_table.proofs.Builds.{cut_short, fork_plan, less, table_half, told_same}
 use Rattle.nearest_table.proofs.plans.+make_plan.Goals as goal
 
 pub returns-in-Some : goal.returns-in-Some
@@ -24,7 +24,7 @@ make_plan-requires g t c κs within =
     let ts = g.I.Table.routes c.args.installed.now in
     let short : length b < W = cut_short W b (inner b cs) (inner b ts) c.requires.changes c.requires.installed (rw c.in_default.is at c.in_ok-plan.ensures) in
     let falls = less W b short false b' c.extended.ensures in
-    (omega (arith, falls), (search rules, (search rules, (search rules, (c.requires.short, (fits_half W b short false b' c.extended.ensures, (table_half W b short false b' ts c.extended.ensures c.requires.installed, table_half W b short false b' cs c.extended.ensures c.requires.changes)))))))
+    (omega (arith, falls), (search rules, (search rules, (search rules, (c.requires.short, (falls.1, (table_half W b short false b' ts c.extended.ensures c.requires.installed, table_half W b short false b' cs c.extended.ensures c.requires.changes)))))))
 
 pub extended-requires-2 : goal.extended-requires-2
 extended-requires-2 g t c = let b = c.args.block.now in omega (arith, c.requires.short, cut_short g.I.Table.width b (inner b (g.C.Table.routes c.args.changes.now)) (inner b (g.I.Table.routes c.args.installed.now)) c.requires.changes c.requires.installed (rw c.in_default.is at c.in_ok-plan.ensures))
@@ -38,7 +38,7 @@ make_plan-requires-2 g t c κs within =
     let ts = g.I.Table.routes c.args.installed.now in
     let short : length b < W = cut_short W b (inner b cs) (inner b ts) c.requires.changes c.requires.installed (rw c.in_default.is at c.in_ok-plan.ensures) in
     let falls = less W b short true b' c.extended-2.ensures in
-    (omega (arith, falls), (search rules, (search rules, (search rules, (c.requires.short, (fits_half W b short true b' c.extended-2.ensures, (table_half W b short true b' ts c.extended-2.ensures c.requires.installed, table_half W b short true b' cs c.extended-2.ensures c.requires.changes)))))))
+    (omega (arith, falls), (search rules, (search rules, (search rules, (c.requires.short, (falls.1, (table_half W b short true b' ts c.extended-2.ensures c.requires.installed, table_half W b short true b' cs c.extended-2.ensures c.requires.changes)))))))
 
 pub returns : goal.returns
 returns g t c =
