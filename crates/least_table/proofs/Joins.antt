@@ -22,8 +22,7 @@ outside : (upper : Bool) (ds : List Bool) (v : ℕ) (h : List Bool → Option �
 outside upper ds v h k inner other [] l f = absurd (omega (arith, l))
 outside true ds v h k inner other (true ∷ x) l f = inner x (omega (arith, l)) f
 outside false ds v h k inner other (false ∷ x) l f = inner x (omega (arith, l)) f
-outside true ds v h k inner other (false ∷ x) l f = other x (omega (arith, l))
-outside false ds v h k inner other (true ∷ x) l f = other x (omega (arith, l))
+outside upper ds v h k inner other (_ ∷ x) l f = other x (omega (arith, l))
 
 -- a step is appended
 ends_grown : (xs : List Step) (r : LeastPlan) (old new : Steps) → steps_in old ≡ xs ++ below r → Grows old new (top r ∷ []) → IsRising (plan_best r) → EndsWithPlan xs r new

@@ -21,9 +21,6 @@ AllShare ds ps = All (λ p. begins ds p.0 ≡ true) ps
 
 -- the number of bits that two strings have in common at their start
 abbrev pub shared : List Bool → List Bool → ℕ
-shared [] t = 0
-shared (x ∷ s) [] = 0
 shared (false ∷ s) (false ∷ t) = suc (shared s t)
 shared (true ∷ s) (true ∷ t) = suc (shared s t)
-shared (false ∷ s) (true ∷ t) = 0
-shared (true ∷ s) (false ∷ t) = 0
+shared _ _ = 0

@@ -10,16 +10,11 @@ overflow_add-lower g c =
     let z = opened g.P.R.Key.width c.args.path.now _ _ _ _ _ _ _ h c.in-Some.ensures.1 in
     Fits-of_lt (omega (arith, z.0, c.loop-lower.invariant.inside, c.requires.width, c.requires.short))
 
-pub ascend-requires-clause-order : goal.ascend-requires-clause-order
-ascend-requires-clause-order g c =
+pub ascend-requires : goal.ascend-requires
+ascend-requires g c =
     let h = c.loop-lower.invariant.planned c.requires.planned.0 c.requires.planned.1 in
     let z = opened g.P.R.Key.width c.args.path.now _ _ _ _ _ _ _ h c.in-Some.ensures.1 in
-    omega (arith, z.0)
-
-pub ascend-requires-clause-plans : goal.ascend-requires-clause-plans
-ascend-requires-clause-plans g c =
-    let h = c.loop-lower.invariant.planned c.requires.planned.0 c.requires.planned.1 in
-    (g.P.R.Key.width, c.requires.width, h.pieces, h.before, h.plans)
+    record { short = omega arith; inside = c.loop-lower.invariant.inside; order = omega (arith, z.0); plans = (g.P.R.Key.width, c.requires.width, h.pieces, h.before, h.plans) }
 
 pub join-requires : goal.join-requires
 join-requires g c =
