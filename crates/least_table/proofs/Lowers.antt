@@ -1,73 +1,160 @@
--- Lower halves that wait for their upper ones.
-use Rattle.std.proofs.Common.{◌≡◌, ℕ, zero, suc, ◌+◌, ◌-◌, ◌≤◌, ◌<◌, Bool, true, false, List, [], ◌∷◌, ◌++◌, length, take, drop, reverse, slice_index_or, Option, Some, None, refl, sym, ap, ap₂, ◌∙◌, subst, arith, append-nil, add-one, drop_of_length-le, MatchOption}
-use Rattle.std.proofs.lemmas.List.{drop-append-le, length-take-le, map-id, reverse-append, take-append-le, take_all}
-use Rattle.ipnet_blocks.specs.BitStrings.{begins}
+-- Plans of pieces: of a block by those of its halves, and lower halves that wait for their upper ones.
+use Rattle.std.proofs.Common.{◌≡◌, ℕ, suc, ◌+◌, ◌-◌, ◌≤◌, ◌<◌, Bool, true, false, cond, not, List, [], ◌∷◌, ◌++◌, length, take, drop, reverse, slice_index_or, Option, None, is_some, refl, sym, ap, ◌∙◌, subst, arith, append-nil, append_assoc, add-one, Less, length-append}
+use Rattle.std.proofs.lemmas.List.{drop-drop, drop_all, get_or-take, get_or_at, length-take-le, map-append, map-id, reverse-append, take-take, take_more}
+use Rattle.std.proofs.lemmas.List.Elements.{All-append, All-cons, All-head, All-map, All-nil, All-tail, All-weaker}
+use Rattle.ipnet_blocks.specs.BitStrings.{begins, bits_cmp}
 use Rattle.ipnet_blocks.proofs.BitStrings.{take_begins}
 use Rattle.least_table.specs.InnerPacked.{AreWhole, steps_in}
-use Rattle.least_table.specs.InnerPieces.{AllBegin, AllShare, AreRisingPieces, before, beyond, shared}
-use Rattle.least_table.specs.InnerPlanners.{HasPlan, EndAt, HasPlanned, IsLower, AreLowers, ArePlanned, IsDeeper}
-use Rattle.least_table.specs.Pieces.{AreDisjoint, piece_hop, strings}
-use Rattle.least_table.specs.InnerPlans.{EndsWithPlan, EndsWithin, IsHeld, IsPlanOf, JoinsHalves, Stores}
-use Rattle.least_table.specs.InnerSteps.{Step, steps_of, top}
+use Rattle.least_table.specs.InnerPieces.{AllShare, before, beyond, shared}
+use Rattle.least_table.specs.InnerPlanners.{HasPlan, IsLower, AreLowers, ArePlanned, IsDeeper}
+use Rattle.least_table.specs.InnerPlans.{EndsWithPlan, EndsWithin, IsHeld, IsPlanOf, JoinsHalves, OfHalf, Stores}
+use Rattle.least_table.specs.InnerSteps.{Step, steps_of}
 use Rattle.least_table.specs.InnerSteps as steps
+use Rattle.least_table.specs.InnerTrees.{LeastPlan, IsLeastPlan, plan_routes}
+use Rattle.least_table.specs.InnerTrees as trees
+use Rattle.least_table.specs.Pieces.{AreDisjoint, piece_hop, strings}
+use Rattle.least_table.specs.Tables.{half_of, inner_of}
 use Rattle.least_table.specs.declared.plan.LowerPlan.{LowerPlan}
 use Rattle.least_table.specs.declared.plan.Steps.{Steps}
 use Rattle.least_table.specs.declared.planner.Lower.{Lower}
-use Rattle.least_table.specs.declared.planner.Planner.{Planner}
-use Rattle.least_table.specs.InnerTrees.{LeastPlan, PlanFits, IsLeastPlan, plan_routes}
-use Rattle.least_table.specs.InnerTrees as trees
-use Rattle.least_table.specs.Tables.{within}
-use Rattle.least_table.proofs.Builds.{fits_plan, halves_made}
-use Rattle.least_table.proofs.Disjoint.{ascending_from}
-use Rattle.least_table.proofs.Gathers.{AllBegin-next, AllShare-less, begins_drop}
-use Rattle.least_table.proofs.Stores.{within-whole}
+use Rattle.least_table.proofs.LeastPlans.{begins_other, within-whole}
 
--- ---- strings
+-- ---- pieces that begin with the same bits
 
-begins_front : (u v s : List Bool) → begins (u ++ v) s ≡ true → begins u s ≡ true
-begins_front [] v s e = refl
-begins_front (x ∷ u) v [] e = cc
-begins_front (true ∷ u) v (true ∷ s) e = begins_front u v s e
-begins_front (false ∷ u) v (false ∷ s) e = begins_front u v s e
-begins_front (true ∷ u) v (false ∷ s) e = cc
-begins_front (false ∷ u) v (true ∷ s) e = cc
+begins_parts : (u v s : List Bool) → begins (u ++ v) s ≡ true → (begins u s ≡ true) × (begins v (drop (length u) s) ≡ true)
+begins_parts [] v s e = (refl, e)
+begins_parts (true ∷ u) v (true ∷ s) e = begins_parts u v s e
+begins_parts (false ∷ u) v (false ∷ s) e = begins_parts u v s e
+begins_parts _ v s e = cc
 
-AllShare-front : (u v : List Bool) (ps : List (List Bool × ℕ)) → AllShare (u ++ v) ps → AllShare u ps
-AllShare-front u v [] h = tt
-AllShare-front u v (p ∷ ps) h = (begins_front u v p.0 h.0, AllShare-front u v ps h.1)
+share_parts : (u v : List Bool) (ps : List (List Bool × ℕ)) → AllShare (u ++ v) ps → AllShare u ps × AllShare v (beyond (length u) ps)
+share_parts u v ps h = (
+  All-weaker _ _ (λ p e. (begins_parts u v p.0 e).0) ps h,
+  All-map (λ p. begins v p.0 ≡ true) (λ p. (drop (length u) p.0, p.1)) ps (All-weaker _ _ (λ p e. (begins_parts u v p.0 e).1) ps h),
+)
 
-AllShare-append : (u : List Bool) (ps qs : List (List Bool × ℕ)) → AllShare u ps → AllShare u qs → AllShare u (ps ++ qs)
-AllShare-append u [] qs h k = k
-AllShare-append u (p ∷ ps) qs h k = (h.0, AllShare-append u ps qs h.1 k)
+-- the bits of a behind its first d bits
+share_next : (a : List Bool) (d : ℕ) (ps : List (List Bool × ℕ)) → d < length a → AllShare (take (suc d) a) ps → AllShare (take d a) ps × AllShare (slice_index_or a d false ∷ []) (beyond d ps)
+share_next a d ps l h =
+    let long : length (take d a) ≡ d = length-take-le d a (omega (arith, l)) in
+    rw long at (share_parts (take d a) (slice_index_or a d false ∷ []) ps (rw (← take_more a d false l, add-one) h))
 
-AllBegin-behind : (d : ℕ) (a : List Bool) (b : Bool) (ps : List (List Bool × ℕ)) → d ≤ length a → AllShare (take d a ++ b ∷ []) ps → AllBegin b (beyond d ps)
-AllBegin-behind d a b [] l h = tt
-AllBegin-behind d a b (p ∷ ps) l h = (subst (λ u. begins u (drop d p.0) ≡ true) behind (begins_drop d (take d a ++ b ∷ []) p.0 h.0), AllBegin-behind d a b ps l h.1)
+-- no hop outside these bits, and inside those of the pieces without the bits
+module _ (ds : List Bool) where
+  none_outside : (ps : List (List Bool × ℕ)) → AllShare ds ps → (x : List Bool) → begins ds x ≡ false → piece_hop ps x ≡ None
+  none_outside [] h x e = refl
+  none_outside (p ∷ ps) h x e = rw (off ds p.0 x (All-head (λ p. begins ds p.0 ≡ true) p ps h) e) (none_outside ps (All-tail (λ p. begins ds p.0 ≡ true) p ps h) x e)
+    where
+      off : (ds q x : List Bool) → begins ds q ≡ true → begins ds x ≡ false → begins q x ≡ false
+      off (true ∷ ds) (true ∷ q) (true ∷ x) e f = off ds q x e f
+      off (false ∷ ds) (false ∷ q) (false ∷ x) e f = off ds q x e f
+      off _ q x e f = cc
+
+  hop_inside : (ps : List (List Bool × ℕ)) → AllShare ds ps → (x : List Bool) → piece_hop ps (ds ++ x) ≡ piece_hop (beyond (length ds) ps) x
+  hop_inside [] h x = refl
+  hop_inside (p ∷ ps) h x = rw (on ds p.0 (All-head (λ p. begins ds p.0 ≡ true) p ps h), hop_inside ps (All-tail (λ p. begins ds p.0 ≡ true) p ps h) x) refl
+    where
+      on : (ds q : List Bool) → begins ds q ≡ true → begins q (ds ++ x) ≡ begins (drop (length ds) q) x
+      on [] q e = refl
+      on (true ∷ ds) (true ∷ q) e = on ds q e
+      on (false ∷ ds) (false ∷ q) e = on ds q e
+      on _ q e = cc
+
+half_hop : (b : Bool) (d : ℕ) (ps : List (List Bool × ℕ)) → AllShare (b ∷ []) (beyond d ps) → (x : List Bool) → (piece_hop (beyond d ps) (b ∷ x) ≡ piece_hop (beyond (suc d) ps) x) × (piece_hop (beyond d ps) (not b ∷ x) ≡ None)
+half_hop b d ps h x = (hop_inside (b ∷ []) (beyond d ps) h x ∙ ap (λ qs. piece_hop qs x) (more ps), none_outside (b ∷ []) (beyond d ps) h (not b ∷ x) (begins_other b [] x))
   where
-    behind : drop d (take d a ++ b ∷ []) ≡ b ∷ []
-    behind = drop-append-le d (take d a) (b ∷ []) (omega (arith, length-take-le d a l)) ∙ ap (λ t. t ++ b ∷ []) (drop_of_length-le (take d a) {i = d} (omega (arith, length-take-le d a l)))
+    more : (ps : List (List Bool × ℕ)) → beyond 1 (beyond d ps) ≡ beyond (suc d) ps
+    more [] = refl
+    more (p ∷ ps) = rw (drop-drop 1 d p.0, add-one, more ps) refl
 
--- strings with the same first bits
-bit_agrees : (i d : ℕ) (a z : List Bool) → i < d → take d a ≡ take d z → slice_index_or a i false ≡ slice_index_or z i false
-bit_agrees i zero a z l e = absurd (omega (arith, l))
-bit_agrees i (suc d) [] [] l e = refl
-bit_agrees i (suc d) [] (y ∷ z) l e = cc
-bit_agrees i (suc d) (x ∷ a) [] l e = cc
-bit_agrees zero (suc d) (x ∷ a) (y ∷ z) l e = let f : x ≡ y = cc in f
-bit_agrees (suc i) (suc d) (x ∷ a) (y ∷ z) l e = let f : take d a ≡ take d z = cc in bit_agrees i d a z (omega (arith, l)) f
+-- ---- plans of blocks, by those of their halves
 
-take_agrees : (i d : ℕ) (a z : List Bool) → i ≤ d → take d a ≡ take d z → take i a ≡ take i z
-take_agrees zero d a z l e = refl
-take_agrees (suc i) zero a z l e = absurd (omega (arith, l))
-take_agrees (suc i) (suc d) [] [] l e = refl
-take_agrees (suc i) (suc d) [] (y ∷ z) l e = cc
-take_agrees (suc i) (suc d) (x ∷ a) [] l e = cc
-take_agrees (suc i) (suc d) (x ∷ a) (y ∷ z) l e =
-    let f : x ≡ y = cc in
-    let g : take d a ≡ take d z = cc in
-    ap₂ (λ u v. u ∷ v) f (take_agrees i d a z (omega (arith, l)) g)
+plan_same : (w : ℕ) (h g : List Bool → Option ℕ) (t : LeastPlan) → ((x : List Bool) → h x ≡ g x) → IsLeastPlan w g t → IsLeastPlan w h t
+plan_same w h g (trees.Leaf k) e plan = λ x l. e x ∙ plan x l
+plan_same w h g (trees.Fork hops l r) e plan =
+    (plan.0, plan.1, plan.2, plan_same plan.0 (half_of false h) (half_of false g) l (λ x. e (false ∷ x)) plan.3, plan_same plan.0 (half_of true h) (half_of true g) r (λ x. e (true ∷ x)) plan.4)
+plan_same w h g (trees.Skip k hops b ds t) e plan =
+    (plan.0, plan.1, plan.2, (λ x l f. e x ∙ plan.3 x l f), plan_same plan.0 (inner_of (b ∷ ds) h) (inner_of (b ∷ ds) g) t (λ x. e ((b ∷ ds) ++ x)) plan.4)
 
--- where two strings part
+module _ (w : ℕ) where
+  -- a block has pieces in both halves
+  halves_made : (d : ℕ) (ls rs : List (List Bool × ℕ)) (p q r : LeastPlan) → d < w → AllShare (false ∷ []) (beyond d ls) → AllShare (true ∷ []) (beyond d rs) → JoinsHalves p q r
+      → IsLeastPlan (w - suc d) (piece_hop (beyond (suc d) ls)) p → IsLeastPlan (w - suc d) (piece_hop (beyond (suc d) rs)) q → IsLeastPlan (w - d) (piece_hop (beyond d (ls ++ rs))) r
+  halves_made d ls rs p q r i f g of_halves l h =
+      let more : suc (w - suc d) ≡ w - d = omega (arith, i) in
+      rw more at (of_halves (w - suc d) (piece_hop (beyond d (ls ++ rs))) (plan_same _ _ _ p (λ x. joined (false ∷ x) ∙ low x) l) (plan_same _ _ _ q (λ x. joined (true ∷ x) ∙ high x) h))
+    where
+      append : (ps qs : List (List Bool × ℕ)) (x : List Bool) → piece_hop (ps ++ qs) x ≡ cond (is_some (piece_hop ps x)) (piece_hop ps x) (piece_hop qs x)
+      append [] qs x = refl
+      append (p ∷ ps) qs x = grind (arith, append ps qs x)
+
+      joined : (x : List Bool) → piece_hop (beyond d (ls ++ rs)) x ≡ cond (is_some (piece_hop (beyond d ls) x)) (piece_hop (beyond d ls) x) (piece_hop (beyond d rs) x)
+      joined x = rw (map-append {B = List Bool × ℕ} (λ p. (drop d p.0, p.1)) ls rs) (append (beyond d ls) (beyond d rs) x)
+
+      low : (x : List Bool) → cond (is_some (piece_hop (beyond d ls) (false ∷ x))) (piece_hop (beyond d ls) (false ∷ x)) (piece_hop (beyond d rs) (false ∷ x)) ≡ piece_hop (beyond (suc d) ls) x
+      low x = grind (arith, (half_hop false d ls f x).0, (half_hop true d rs g x).1)
+
+      high : (x : List Bool) → cond (is_some (piece_hop (beyond d ls) (true ∷ x))) (piece_hop (beyond d ls) (true ∷ x)) (piece_hop (beyond d rs) (true ∷ x)) ≡ piece_hop (beyond (suc d) rs) x
+      high x = grind (arith, (half_hop false d ls f x).1, (half_hop true d rs g x).0)
+
+  -- or in one of them
+  pub ascended : (a : List Bool) (to from : ℕ) (ps : List (List Bool × ℕ)) (xs : List Step) (old new : Steps) → length a ≤ w → from ≡ suc to → from ≤ length a
+      → (h : HasPlan w a from ps xs old) → (r : LeastPlan) → OfHalf (slice_index_or a to false) None h.plan r → EndsWithPlan xs r new → HasPlan w a to ps xs new
+  ascended a to from ps xs old new inside e l h r of_half ends =
+      let upper = slice_index_or a to false in
+      let share = share_next a to ps (omega (arith, e, l)) (rw e at h.is.inside) in
+      let more : suc (w - suc to) ≡ w - to = omega (arith, e, l, inside) in
+      let plans = rw e at h.is.plans in
+      record {
+        plan = r;
+        ends = ends;
+        is = record {
+          plans = rw more at (of_half (w - suc to) (piece_hop (beyond to ps)) (plan_same _ _ _ h.plan (λ x. (half_hop upper to ps share.1 x).0) plans) (λ x m. (half_hop upper to ps share.1 x).1));
+          inside = share.0;
+        };
+      }
+
+  -- a lower half is joined with the upper one
+  pub joined : (a : List Bool) (o : Lower) (ps qs : List (List Bool × ℕ)) (xs : List Step) (mid new : Steps) (l : IsLower w (take o.depth a) o ps xs) (h : HasPlan w a (o.depth + 1) qs xs mid) → slice_index_or a o.depth false ≡ true → o.depth < length a → length a ≤ w
+      → (r : LeastPlan) → JoinsHalves l.plan h.plan r → EndsWithPlan l.before r new → HasPlan w a o.depth (l.pieces ++ qs) l.before new
+  joined a o ps qs xs mid new l h upper inside fit r of_halves ends =
+      let long : length (take o.depth a) ≡ o.depth = length-take-le o.depth a (omega (arith, inside)) in
+      let low = rw long at (share_parts (take o.depth a) (false ∷ []) l.pieces l.is.inside) in
+      let high = rw upper at (share_next a o.depth qs inside (rw add-one at h.is.inside)) in
+      let plans = rw add-one at h.is.plans in
+      record {
+        plan = r;
+        ends = ends;
+        is = record { plans = halves_made o.depth l.pieces qs l.plan h.plan r (omega (arith, inside, fit)) low.1 high.1 of_halves l.is.plans plans; inside = All-append (λ p. begins (take o.depth a) p.0 ≡ true) l.pieces qs low.0 high.0 };
+      }
+
+  -- ---- the lower halves
+
+  pub fewer : (d e : ℕ) (os : List Lower) (a : List Bool) (ps : List (List Bool × ℕ)) (xs : List Step) → AreLowers w os a d ps xs → IsDeeper e os → AreLowers w os a e ps xs
+  fewer d e [] a ps xs h i = h
+  fewer d e (o ∷ os) a ps xs h i = (i, h.1, h.2, h.3)
+
+  -- the innermost one, and the others
+  pub opened : (a : List Bool) (d e : ℕ) (ps : List (List Bool × ℕ)) (all front : List Lower) (o : Lower) (s : Steps) (h : ArePlanned w a d e ps all s) → all ≡ front ++ o ∷ [] → AreLowers w (o ∷ reverse front) a e h.others h.before
+  opened a d e ps all front o s h i = subst (λ us. AreLowers w us a e h.others h.before) (ap reverse i ∙ reverse-append front (o ∷ [])) h.lower
+
+  -- those of one string are those of another with the same first bits
+  of_other : (d n : ℕ) (os : List Lower) (a z : List Bool) (ps : List (List Bool × ℕ)) (xs : List Step) → d ≤ n → take n a ≡ take n z → AreLowers w os a d ps xs → AreLowers w os z d ps xs
+  of_other d n [] a z ps xs l e h = h
+  of_other d n (o ∷ os) a z ps xs l e h =
+      let i : o.depth < n = omega (arith, l, h.0) in
+      let bit : slice_index_or z o.depth false ≡ true = sym (get_or-take n z o.depth false i) ∙ ap (λ u. slice_index_or u o.depth false) (sym e) ∙ get_or-take n a o.depth false i ∙ h.1 in
+      let front : take o.depth a ≡ take o.depth z = sym (take-take o.depth n a (omega (arith, i))) ∙ ap (take o.depth) e ∙ take-take o.depth n z (omega (arith, i)) in
+      let r = subst (λ b. (l : IsLower w b o ps xs) × AreLowers w os z o.depth l.others l.before) front (h.2, of_other o.depth n os a z h.2.others h.2.before (omega (arith, i)) e h.3) in
+      (h.0, bit, r.0, r.1)
+
+  -- none is that of a block whose upper half has not the string
+  not_here : (n : ℕ) (os : List Lower) (a : List Bool) (ps : List (List Bool × ℕ)) (xs : List Step) → slice_index_or a n false ≡ false → AreLowers w os a (n + 1) ps xs → AreLowers w os a n ps xs
+  not_here n [] a ps xs e h = h
+  not_here n (o ∷ os) a ps xs e h = let other : o.depth ≡ n → ⊥ = λ i. let z = sym (ap (λ m. slice_index_or a m false) i ∙ e) ∙ h.1 in cc in (omega (arith, other, h.0), h.1, h.2, h.3)
+
+-- ---- where two strings part
+
 pub record Parts (a z : List Bool) (n : ℕ) : Type 0 where
   pub short : n < length a
   pub other : n < length z
@@ -77,85 +164,32 @@ pub record Parts (a z : List Bool) (n : ℕ) : Type 0 where
   pub high : slice_index_or z n false ≡ true
 
 pub parts : (a z : List Bool) → before a z ≡ true → Parts a z (shared a z)
-parts [] z e = cc
-parts (x ∷ a) [] e = cc
 parts (false ∷ a) (true ∷ z) e = record { short = omega arith; other = omega arith; same = refl; next = refl; low = refl; high = refl }
-parts (true ∷ a) (false ∷ z) e = cc
-parts (true ∷ a) (true ∷ z) e = let h = parts a z e in record { short = omega (arith, h.short); other = omega (arith, h.other); same = ap (λ t. true ∷ t) h.same; next = ap (λ t. true ∷ t) h.next; low = h.low; high = h.high }
-parts (false ∷ a) (false ∷ z) e = let h = parts a z e in record { short = omega (arith, h.short); other = omega (arith, h.other); same = ap (λ t. false ∷ t) h.same; next = ap (λ t. false ∷ t) h.next; low = h.low; high = h.high }
+parts (true ∷ a) (true ∷ z) e = let h = parts a z e in record { short = omega (arith, h.short); other = omega (arith, h.other); same = cc h.same; next = cc h.next; low = h.low; high = h.high }
+parts (false ∷ a) (false ∷ z) e = let h = parts a z e in record { short = omega (arith, h.short); other = omega (arith, h.other); same = cc h.same; next = cc h.next; low = h.low; high = h.high }
+parts _ z e = cc
 
 -- the last piece comes before the next one
-pub last_before : (ps : List (List Bool × ℕ)) (p q : List Bool × ℕ) → AreRisingPieces ((ps ++ p ∷ []) ++ q ∷ []) → before p.0 q.0 ≡ true
-last_before [] p q h = h.0.0
-last_before (x ∷ ps) p q h = last_before ps p q h.1
+pub last_before : (ps : List (List Bool × ℕ)) (p q : List Bool × ℕ) → AreDisjoint ((ps ++ p ∷ []) ++ q ∷ []) → before p.0 q.0 ≡ true
+last_before ps p q h =
+    let all : (ps ++ p ∷ []) ++ q ∷ [] ≡ ps ++ p ∷ q ∷ [] = append_assoc ps (p ∷ []) (q ∷ []) in
+    let r = (rw all at h) (length ps) (suc (length ps)) p (omega arith) (omega (arith, length-append ps (p ∷ q ∷ []))) in
+    let s = rw (get_or_at ps p (q ∷ []) p (length ps) refl, ← all, get_or_at (ps ++ p ∷ []) q [] p (suc (length ps)) (omega (arith, length-append ps (p ∷ [])))) at r in
+    before_by p.0 q.0 s.0 s.1
+  where
+    before_by : (a b : List Bool) → bits_cmp a b ≡ Less → begins a b ≡ false → before a b ≡ true
+    before_by (false ∷ a) (false ∷ b) e f = before_by a b e f
+    before_by (true ∷ a) (true ∷ b) e f = before_by a b e f
+    before_by (false ∷ a) (true ∷ b) e f = refl
+    before_by _ b e f = cc
 
 module _ (w : ℕ) where
-  -- ---- a lower half is joined with the upper one
-
-  pub joined : (a : List Bool) (o : Lower) (ps qs : List (List Bool × ℕ)) (xs : List Step) (mid new : Steps) (l : IsLower w a o ps xs) (h : HasPlan w a (o.depth + 1) qs xs mid) → o.depth < length a → length a ≤ w
-      → (r : LeastPlan) → JoinsHalves l.plan h.plan r → EndsWithPlan l.before r new → HasPlan w a o.depth (l.pieces ++ qs) l.before new
-  joined a o ps qs xs mid new l h inside fit r of_halves ends = record {
-    plan = r;
-    ends = ends;
-    is = record {
-      plans = halves_made w o.depth (length l.pieces) (l.pieces ++ qs) l.pieces qs l.plan h.plan r (omega (arith, inside, fit))
-          (subst (λ rs. AllBegin false (beyond o.depth rs)) (sym front) (AllBegin-behind o.depth a false l.pieces (omega (arith, inside)) l.is.inside))
-          (subst (λ rs. AllBegin true (beyond o.depth rs)) (sym back) (AllBegin-next o.depth a true qs inside l.upper (subst (λ n. AllShare (take n a) qs) (add-one o.depth) h.is.inside)))
-          of_halves (sym front) (sym back) l.is.plans (subst (λ n. IsLeastPlan (w - n) (piece_hop (beyond n qs)) h.plan) (add-one o.depth) h.is.plans);
-      inside = AllShare-append (take o.depth a) l.pieces qs (AllShare-front (take o.depth a) (false ∷ []) l.pieces l.is.inside) (AllShare-less o.depth (o.depth + 1) a qs (omega arith) h.is.inside);
-    };
-  }
-    where
-      front : take (length l.pieces) (l.pieces ++ qs) ≡ l.pieces
-      front = take-append-le (length l.pieces) l.pieces qs (omega arith) ∙ take_all (length l.pieces) l.pieces (omega arith)
-
-      back : drop (length l.pieces) (l.pieces ++ qs) ≡ qs
-      back = drop-append-le (length l.pieces) l.pieces qs (omega arith) ∙ ap (λ t. t ++ qs) (drop_of_length-le l.pieces {i = length l.pieces} (omega arith))
-
-  -- ---- the lower halves
-
-  pub fewer : (d e : ℕ) (os : List Lower) (a : List Bool) (ps : List (List Bool × ℕ)) (xs : List Step) → AreLowers w os a d ps xs → IsDeeper e os → AreLowers w os a e ps xs
-  fewer d e [] a ps xs h i = h
-  fewer d e (o ∷ os) a ps xs h i = (i, h.1, h.2)
-
-  -- the innermost one, and the others
-  pub opened : (a : List Bool) (d e : ℕ) (ps : List (List Bool × ℕ)) (all front : List Lower) (o : Lower) (s : Steps) (h : ArePlanned w a d e ps all s) → all ≡ front ++ o ∷ []
-      → (o.depth < e) × (l : IsLower w a o h.others h.before) × AreLowers w (reverse front) a o.depth l.others l.before
-  opened a d e ps all front o s h i = subst (λ us. AreLowers w us a e h.others h.before) (ap reverse i ∙ reverse-append front (o ∷ [])) h.lower
-
-  -- those of one string are those of another with the same first bits
-  pub of_other : (d n : ℕ) (os : List Lower) (a z : List Bool) (ps : List (List Bool × ℕ)) (xs : List Step) → d ≤ n → take n a ≡ take n z → AreLowers w os a d ps xs → AreLowers w os z d ps xs
-  of_other d n [] a z ps xs l e h = h
-  of_other d n (o ∷ os) a z ps xs l e h =
-      let t = take_agrees o.depth n a z (omega (arith, l, h.0)) e in (
-        h.0,
-        record {
-          plan = h.1.plan;
-          pieces = h.1.pieces;
-          others = h.1.others;
-          before = h.1.before;
-          all = h.1.all;
-          held = h.1.held;
-          rising = h.1.rising;
-          is = subst (λ u. IsPlanOf w (suc o.depth) (u ++ false ∷ []) h.1.pieces h.1.plan) t h.1.is;
-          upper = sym (bit_agrees o.depth n a z (omega (arith, l, h.0)) e) ∙ h.1.upper;
-        },
-        of_other o.depth n os a z h.1.others h.1.before (omega (arith, l, h.0)) e h.2,
-      )
-
-  -- none is that of a block whose upper half has not the string
-  pub not_here : (n : ℕ) (os : List Lower) (a : List Bool) (ps : List (List Bool × ℕ)) (xs : List Step) → slice_index_or a n false ≡ false → AreLowers w os a (n + 1) ps xs → AreLowers w os a n ps xs
-  not_here n [] a ps xs e h = h
-  not_here n (o ∷ os) a ps xs e h = (lt_of_ne (λ i. let z = sym (ap (λ m. slice_index_or a m false) i ∙ e) ∙ h.1.upper in cc), h.1, h.2)
-    where
-      lt_of_ne : (o.depth ≡ n → ⊥) → o.depth < n
-      lt_of_ne f = omega (arith, f, h.0)
-
   -- the one that the last piece lies in, where the next one lies in the upper half
   pub turned : (a z : List Bool) (n : ℕ) (os : List Lower) (ps : List (List Bool × ℕ)) (s t : Steps) (held : LowerPlan) → Parts a z n → (h : ArePlanned w a (n + 1) (n + 1) ps os s) → IsHeld held h.plans.plan h.before (steps_in t)
       → AreLowers w (reverse (os ++ record { depth = n; planned = held } ∷ [])) z (length z) ps (steps_in t)
   turned a z n os ps s t held p h i = subst (λ us. AreLowers w us z (length z) ps (steps_in t)) (sym (reverse-append os (record { depth = n; planned = held } ∷ []))) (
     p.other,
+    p.high,
     record {
       plan = h.plans.plan;
       pieces = h.pieces;
@@ -165,65 +199,30 @@ module _ (w : ℕ) where
       held = i;
       rising = h.plans.ends.rising;
       is = subst (λ u. IsPlanOf w (suc n) u h.pieces h.plans.plan) p.next (subst (λ m. IsPlanOf w m (take m a) h.pieces h.plans.plan) (add-one n) h.plans.is);
-      upper = p.high;
     },
-    of_other n n (reverse os) a z h.others h.before (omega arith) p.same (not_here n (reverse os) a h.others h.before p.low h.lower),
+    of_other w n n (reverse os) a z h.others h.before (omega arith) p.same (not_here w n (reverse os) a h.others h.before p.low h.lower),
   )
 
-  -- ---- a piece is added
-
-  -- all addresses of its block have its hop
-  piece_plan : (z : List Bool) (hop : ℕ) → IsLeastPlan (w - length z) (piece_hop (beyond (length z) ((z, hop) ∷ []))) (trees.Leaf hop)
-  piece_plan z hop x l = rw (drop_of_length-le z {i = length z} (omega arith)) refl
-
+  -- a piece is added: all addresses of its block have its hop
   pub piece_planned : (z : List Bool) (hop : ℕ) (xs : List Step) (new : Steps) → steps_in new ≡ xs ++ steps.Whole hop ∷ [] → AreWhole new → HasPlan w z (length z) ((z, hop) ∷ []) xs new
   piece_planned z hop xs new e whole = record {
     plan = trees.Leaf hop;
     ends = record { steps = e; whole = whole; rising = (tt, tt) };
-    is = record { plans = piece_plan z hop; inside = (take_begins (length z) z, tt) };
+    is = record { plans = λ x l. rw (drop_all (length z) z (omega arith)) refl; inside = All-cons (λ p. begins (take (length z) z) p.0 ≡ true) (z, hop) [] (take_begins (length z) z) (All-nil _) };
   }
 
-  -- before the first piece
-  pub nothing_yet : (os : List Lower) (z : List Bool) (d : ℕ) (ps : List (List Bool × ℕ)) (s : Steps) → ps ≡ [] → os ≡ [] → steps_in s ≡ [] → AreLowers w (reverse os) z d ps (steps_in s)
-  nothing_yet os z d ps s e f g = subst (λ us. AreLowers w (reverse us) z d ps (steps_in s)) (sym f) (e, g)
-
-  -- what has come, by the last piece
-  pub some_planned : {B : Type 0} (p : Planner B) (a : List Bool) (ps : List (List Bool × ℕ)) → p.last ≡ Some a → HasPlanned w p ps → EndAt w a ps p.lowers.items p.steps
-  some_planned p a ps e h = subst (λ o. MatchOption o ((ps ≡ []) × (p.lowers.items ≡ []) × (steps_in p.steps ≡ []) × AreWhole p.steps) (λ b. EndAt w b ps p.lowers.items p.steps)) e h
-
-  pub none_planned : {B : Type 0} (p : Planner B) (ps : List (List Bool × ℕ)) → p.last ≡ None → HasPlanned w p ps → (ps ≡ []) × (p.lowers.items ≡ []) × (steps_in p.steps ≡ []) × AreWhole p.steps
-  none_planned p ps e h = subst (λ o. MatchOption o ((ps ≡ []) × (p.lowers.items ≡ []) × (steps_in p.steps ≡ []) × AreWhole p.steps) (λ b. EndAt w b ps p.lowers.items p.steps)) e h
-
-  pub ends_before : (a z : List Bool) (k : ℕ) (ps : List (List Bool × ℕ)) (os : List Lower) (s : Steps) → EndAt w a ps os s → AreDisjoint (ps ++ (z, k) ∷ []) → before a z ≡ true
-  ends_before a z k ps os s h d = last_before h.others (a, h.hop) (z, k) (ascending_from _ (subst (λ qs. AreDisjoint (qs ++ (z, k) ∷ [])) h.last d))
-
-  -- ---- the plan of all addresses
-
-  pub record IsWhole (ps : List (List Bool × ℕ)) (s : Steps) : Type 0 where
-    pub plan : LeastPlan
-    pub plans : IsLeastPlan w (piece_hop ps) plan
-    pub ends : EndsWithin w [] plan s
-
-  pub whole_plan : (a : List Bool) (ps : List (List Bool × ℕ)) (os : List Lower) (s : Steps) → ArePlanned w a 0 0 ps os s → IsWhole ps s
+  -- the plan of all addresses
+  pub whole_plan : (a : List Bool) (ps : List (List Bool × ℕ)) (os : List Lower) (s : Steps) → ArePlanned w a 0 0 ps os s → (p : LeastPlan) × IsLeastPlan w (piece_hop ps) p × EndsWithin w [] p s
   whole_plan a ps os s h = go (reverse os) h.lower
     where
-      go : (us : List Lower) → AreLowers w us a 0 h.others h.before → IsWhole ps s
+      go : (us : List Lower) → AreLowers w us a 0 h.others h.before → (p : LeastPlan) × IsLeastPlan w (piece_hop ps) p × EndsWithin w [] p s
       go (o ∷ us) l = absurd (omega (arith, l.0))
       go [] l =
           let all : h.pieces ≡ ps = sym (h.all ∙ ap (λ t. t ++ h.pieces) l.0) in
           let z : w - 0 ≡ w = omega arith in
-          let made = subst (λ qs. IsLeastPlan (w - 0) (piece_hop qs) h.plans.plan) (map-id h.pieces ∙ all) h.plans.is.plans in
-          record {
-            plan = h.plans.plan;
-            plans = subst (λ n. IsLeastPlan n (piece_hop ps) h.plans.plan) z made;
-            ends = record { steps = h.plans.ends.steps ∙ ap (λ t. t ++ steps_of h.plans.plan) l.1; whole = h.plans.ends.whole; room = subst (λ n. PlanFits n h.plans.plan) z (fits_plan (w - 0) (piece_hop ps) h.plans.plan made) };
-          }
+          let made = rw (z, map-id h.pieces, all) at h.plans.is.plans in
+          (h.plans.plan, made, record { steps = h.plans.ends.steps ∙ ap (λ t. t ++ steps_of h.plans.plan) l.1; whole = h.plans.ends.whole; plans = (piece_hop ps, made) })
 
 -- its routes are those that it stores, and no others
 pub whole_routes : {B : Type 0} (string : B → List Bool) (q : List Bool) (p : LeastPlan) (old new : List (B × Option ℕ)) (before after : Steps) → q ≡ [] → old ≡ [] → Stores string q None [] p old new before after → strings string new ≡ plan_routes p None
-whole_routes string q p old new before after e f h =
-    h.routes ∙ ap₂ (λ u t. within u (plan_routes p None) ++ strings string t) e f ∙ append-nil (within [] (plan_routes p None)) ∙ within-whole (plan_routes p None)
-
--- a block without bits has them all free
-pub from_top : (w : ℕ) (q : List Bool) (xs : List Step) (p : LeastPlan) (s : Steps) → q ≡ [] → EndsWithin w xs p s → EndsWithin (w - length q) xs p s
-from_top w q xs p s e h = let n : w ≡ w - length q = omega (arith, ap length e) in subst (λ m. EndsWithin m xs p s) n h
+whole_routes string q p old new before after e f h = h.routes ∙ rw (e, f, append-nil, within-whole) refl

@@ -1,5 +1,5 @@
 -- The routes of a plan are in order.
-use Rattle.std.proofs.Common.{◌≡◌, ℕ, Bool, true, false, List, [], ◌∷◌, ◌++◌, All, AllPairs, Option, Some, None, refl, ◌∙◌, map, Less, arith}
+use Rattle.std.proofs.Common.{◌≡◌, ℕ, Bool, true, false, List, [], ◌∷◌, ◌++◌, All, AllPairs, Option, Some, None, refl, ◌∙◌, Less, arith}
 use Rattle.std.proofs.lemmas.List.Elements.{All-nil, All-cons}
 use Rattle.std.proofs.lemmas.List.Kept.{AllPairs-cons}
 use Rattle.std.proofs.lemmas.Bool.{cond_both}
@@ -7,7 +7,7 @@ use Rattle.ipnet_blocks.specs.BitStrings.{bits_cmp}
 use Rattle.trie_core.proofs.Strings.{bits_cmp-under}
 use Rattle.least_table.specs.HopSets.{is_same_hop, holds, first_hop}
 use Rattle.least_table.specs.InnerTrees.{LeastPlan, Leaf, Fork, Skip, beside, lone_route, plan_routes, with_best}
-use Rattle.least_table.specs.Tables.{inside, own, within}
+use Rattle.least_table.specs.Tables.{own, within}
 use Rattle.least_table.specs.Wholes.{with_own}
 use Rattle.least_table.proofs.Split.{joined, own-joined}
 use Rattle.least_table.specs.Orders.{ComesBeforeAll, IsInOrder}
@@ -21,18 +21,14 @@ IsInOrder-within : (ds : List Bool) (t : List (List Bool × Option ℕ)) → IsI
 IsInOrder-within ds [] h = tt
 IsInOrder-within ds (r ∷ t) h = (ComesBeforeAll-within ds r.0 t h.0, IsInOrder-within ds t h.1)
 
-ComesBeforeAll-map : (f : List Bool × Option ℕ → List Bool × Option ℕ) (x : List Bool) (t : List (List Bool × Option ℕ)) → ((r : List Bool × Option ℕ) → bits_cmp x (f r).0 ≡ Less) → ComesBeforeAll x (map f t)
-ComesBeforeAll-map f x [] h = tt
-ComesBeforeAll-map f x (r ∷ t) h = (h r, ComesBeforeAll-map f x t h)
-
-ComesBeforeAll-append : (x : List Bool) (t u : List (List Bool × Option ℕ)) → ComesBeforeAll x t → ComesBeforeAll x u → ComesBeforeAll x (t ++ u)
-ComesBeforeAll-append x [] u h k = k
-ComesBeforeAll-append x (r ∷ t) u h k = (h.0, ComesBeforeAll-append x t u h.1 k)
-
 pub IsInOrder-joined : (l r : List (List Bool × Option ℕ)) → IsInOrder l → IsInOrder r → IsInOrder (joined l r)
 IsInOrder-joined [] r h k = IsInOrder-within (true ∷ []) r k
-IsInOrder-joined (q ∷ l) r h k =
-    (ComesBeforeAll-append (false ∷ q.0) (inside false l) (inside true r) (ComesBeforeAll-within (false ∷ []) q.0 l h.0) (ComesBeforeAll-map (λ p. (true ∷ p.0, p.1)) (false ∷ q.0) r (λ p. refl)), IsInOrder-joined l r h.1 k)
+IsInOrder-joined (q ∷ l) r h k = (before l r h.0, IsInOrder-joined l r h.1 k)
+  where
+    before : (l r : List (List Bool × Option ℕ)) → ComesBeforeAll q.0 l → ComesBeforeAll (false ∷ q.0) (joined l r)
+    before [] [] h = tt
+    before [] (p ∷ r) h = (refl, before [] r h)
+    before (p ∷ l) r h = (h.0, before l r h.1)
 
 -- the route of the whole block comes before all others
 after_whole : (t : List (List Bool × Option ℕ)) → own t ≡ None → ComesBeforeAll [] t

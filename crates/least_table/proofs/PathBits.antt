@@ -1,5 +1,5 @@
 -- The bits of a path, one by one.
-use Rattle.std.proofs.Common.{◌≡◌, ℕ, zero, suc, ◌+◌, ◌-◌, ◌*◌, ◌/◌, ◌%◌, ◌==◌, ◌^◌, ◌<◌, ◌≤◌, Bool, true, false, List, [], ◌∷◌, ◌++◌, length, slice_index_or, refl, sym, ap, ap₂, ◌∙◌, subst, cond, inl, inr, nat_lt, shr-shr, bit_xor, arith}
+use Rattle.std.proofs.Common.{◌≡◌, ℕ, zero, suc, ◌+◌, ◌-◌, ◌*◌, ◌/◌, ◌%◌, ◌==◌, ◌^◌, ◌<◌, ◌≤◌, Bool, true, false, List, [], ◌∷◌, ◌++◌, length, slice_index_or, sym, ap, ap₂, ◌∙◌, subst, cond, inl, inr, nat_lt, shr-shr, bit_xor, arith}
 use Rattle.std.proofs.lemmas.Bool.{ltb-true, ltb-false, cases_Bool}
 use Rattle.std.proofs.lemmas.List.{get_or_append_left, get_or_push}
 use Rattle.ipnet_blocks.specs.Blocks.{digits}
@@ -42,8 +42,7 @@ number_of_path : (r : ℕ) (s : List Bool) → length s ≤ 128 → prefix_bits 
 number_of_path r s l e m = sym (masked_number 128 r (length s) l m) ∙ ap (number_from 128) e
 
 one_bit : (k : ℕ) (x : Bool) (s : List Bool) → number_from (suc k) (x ∷ s) ≡ cond x 1 0 * 2 ^ k + number_from k s
-one_bit k true s = omega arith
-one_bit k false s = omega arith
+one_bit k x s = grind arith
 
 one_more : (k : ℕ) (x y : Bool) (s t : List Bool) → bit_xor (number_from (suc k) (x ∷ s)) (number_from (suc k) (y ∷ t)) ≡ bit_xor (cond x 1 0) (cond y 1 0) * 2 ^ k + bit_xor (number_from k s) (number_from k t)
 one_more k x y s t = ap₂ bit_xor (one_bit k x s) (one_bit k y t) ∙ xor_block k (cond x 1 0) (cond y 1 0) (number_from k s) (number_from k t) (number_bound k s) (number_bound k t)
@@ -53,8 +52,6 @@ abbrev Part : ℕ → List Bool → List Bool → ℕ → Type 0
 Part k s t n = (m : ℕ) × (shared s t + suc m ≡ k) × (2 ^ m ≤ n) × (n < 2 ^ suc m)
 
 part : (k : ℕ) (s t : List Bool) → before s t ≡ true → length s ≤ k → length t ≤ k → Part k s t (bit_xor (number_from k s) (number_from k t))
-part k [] t e l m = cc
-part k (x ∷ s) [] e l m = cc
 part zero (x ∷ s) (y ∷ t) e l m = absurd (omega (arith, l))
 part (suc k) (false ∷ s) (false ∷ t) e l m =
     let r = part k s t e (omega (arith, l)) (omega (arith, m)) in
@@ -64,7 +61,7 @@ part (suc k) (true ∷ s) (true ∷ t) e l m =
     subst (Part (suc k) (true ∷ s) (true ∷ t)) (sym (one_more k true true s t)) (r.0, omega (arith, r.1), omega (arith, r.2), omega (arith, r.3))
 part (suc k) (false ∷ s) (true ∷ t) e l m =
     subst (Part (suc k) (false ∷ s) (true ∷ t)) (sym (one_more k false true s t)) (k, omega arith, omega arith, omega (arith, xor_lt k (number_from k s) (number_from k t) (number_bound k s) (number_bound k t)))
-part (suc k) (true ∷ s) (false ∷ t) e l m = cc
+part _ s t e l m = cc
 
 pub parted : (r q : ℕ) (s t : List Bool) → before s t ≡ true → length s ≤ 128 → length t ≤ 128 → prefix_bits 128 r (length s) ≡ s → IsMasked 128 r (length s) → prefix_bits 128 q (length t) ≡ t → IsMasked 128 q (length t)
     → count_leading_zeros 128 (bit_xor r q) ≡ shared s t
@@ -81,8 +78,7 @@ one_above n q b l m =
     ap₂ digits e (ap (λ x. x + q) (small b)) ∙ digits-append 1 n (cond b 1 0) q m ∙ ap (λ ds. ds ++ digits n q) (one b)
   where
     one : (c : Bool) → digits 1 (cond c 1 0) ≡ c ∷ []
-    one true = refl
-    one false = refl
+    one c = grind arith
 
     small : (c : Bool) → cond c 1 0 * 2 ^ n % 65536 ≡ cond c 1 0 * 2 ^ n
     small true = let p : 2 ^ n < 2 ^ 16 = pow-lt {i = n} {j = 16} l in omega (arith, p)

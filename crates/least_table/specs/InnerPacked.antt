@@ -1,5 +1,5 @@
 -- The steps of a plan as they are stored: eight bytes each, and the sets that all steps share.
-use Rattle.std.specs.Prelude.{◌≡◌, ℕ, ◌<◌, ◌≤◌, ◌^◌, List, [], ◌∷◌, ◌++◌, drop, map, slice_index_or, Option, Some, None, ⊤}
+use Rattle.std.specs.Prelude.{◌≡◌, ℕ, ◌<◌, ◌≤◌, ◌^◌, List, [], ◌∷◌, ◌++◌, drop, map, slice_index_or, Option, Some, None, All, ⊤}
 use Rattle.ipnet_blocks.specs.Blocks.{digits}
 use Rattle.least_table.specs.InnerSets.{HasSet, set_at}
 use Rattle.least_table.specs.HopSets.{first_hop}
@@ -29,12 +29,8 @@ IsKeptStep sets (HopOrNone n x k) = (n ≤ 16) × (x < 2 ^ n)
 IsKeptStep sets (Set at) = HasSet sets at
 IsKeptStep sets (Beside upper at) = HasSet sets at
 
-abbrev pub AreKept : List (List (Option ℕ)) → List Packed → Type 0
-AreKept sets [] = ⊤
-AreKept sets (x ∷ xs) = IsKeptStep sets x × AreKept sets xs
-
 abbrev pub AreWhole : Steps → Type 0
-AreWhole s = AreKept s.sets s.steps
+AreWhole s = All (IsKeptStep s.sets) s.steps
 
 abbrev pub steps_in : Steps → List Step
 steps_in s = map (stored_step s.sets) s.steps

@@ -16,8 +16,8 @@ module _ (w : ℕ) where
     pub ends : EndsWithPlan xs plan s
     pub is : IsPlanOf w d (take d a) ps plan
 
-  -- the last steps, unless they are held elsewhere, are a plan of a lower half; the upper half beside it contains the block a
-  pub record IsLower (a : List Bool) (o : Lower) (ps : List (List Bool × ℕ)) (xs : List Step) : Type 0 where
+  -- the last steps, unless they are held elsewhere, are a plan of the lower half of the block b
+  pub record IsLower (b : List Bool) (o : Lower) (ps : List (List Bool × ℕ)) (xs : List Step) : Type 0 where
     pub plan : LeastPlan
     pub pieces : List (List Bool × ℕ)
     pub others : List (List Bool × ℕ)
@@ -25,13 +25,12 @@ module _ (w : ℕ) where
     pub all : ps ≡ others ++ pieces
     pub held : IsHeld o.planned plan before xs
     pub rising : IsRising (plan_best plan)
-    pub is : IsPlanOf w (suc o.depth) (take o.depth a ++ false ∷ []) pieces plan
-    pub upper : slice_index_or a o.depth false ≡ true
+    pub is : IsPlanOf w (suc o.depth) (b ++ false ∷ []) pieces plan
 
-  -- the pieces and the steps of lower halves, the innermost first; their blocks have fewer than d bits
+  -- the pieces and the steps of lower halves, the innermost first; their blocks have fewer than d bits, and the upper halves contain a
   abbrev pub AreLowers : List Lower → List Bool → ℕ → List (List Bool × ℕ) → List Step → Type 0
   AreLowers [] a d ps xs = (ps ≡ []) × (xs ≡ [])
-  AreLowers (o ∷ os) a d ps xs = (o.depth < d) × (l : IsLower a o ps xs) × AreLowers os a o.depth l.others l.before
+  AreLowers (o ∷ os) a d ps xs = (o.depth < d) × (slice_index_or a o.depth false ≡ true) × (l : IsLower (take o.depth a) o ps xs) × AreLowers os a o.depth l.others l.before
 
   -- the pieces are planned, up to the block of the first d bits of a, which contains the last of them; the blocks of the lower halves
   -- have fewer than e bits

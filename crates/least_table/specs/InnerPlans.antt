@@ -6,7 +6,7 @@ use Rattle.least_table.specs.InnerPieces.{AllShare, beyond}
 use Rattle.least_table.specs.InnerPacked.{AreWhole, steps_in}
 use Rattle.least_table.specs.InnerRising.{IsRising}
 use Rattle.least_table.specs.InnerSteps.{Step, steps_of}
-use Rattle.least_table.specs.InnerTrees.{LeastPlan, Leaf, PlanFits, IsLeastPlan, AllHave, plan_best, plan_routes}
+use Rattle.least_table.specs.InnerTrees.{LeastPlan, Leaf, IsLeastPlan, AllHave, plan_best, plan_routes}
 use Rattle.least_table.specs.declared.plan.LowerPlan.{LowerPlan}
 use Rattle.least_table.specs.declared.plan.LowerPlan.TheVariants as held
 use Rattle.least_table.specs.declared.plan.Steps.{Steps}
@@ -30,11 +30,11 @@ pub record EndsWithPlan (xs : List Step) (p : LeastPlan) (s : Steps) : Type 0 wh
   pub whole : AreWhole s
   pub rising : IsRising (plan_best p)
 
--- the steps are xs followed by those of the plan p of a block with n free bits
+-- the steps are xs followed by those of the plan p of a block with n free bits and some hops
 pub record EndsWithin (n : ℕ) (xs : List Step) (p : LeastPlan) (s : Steps) : Type 0 where
   pub steps : steps_in s ≡ xs ++ steps_of p
   pub whole : AreWhole s
-  pub room : PlanFits n p
+  pub plans : (h : List Bool → Option ℕ) × IsLeastPlan n h p
 
 -- the steps are xs followed by the plan p of a lower half, unless its addresses have one hop; then it has no step
 abbrev pub IsHeld : LowerPlan → LeastPlan → List Step → List Step → Type 0

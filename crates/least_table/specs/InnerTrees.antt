@@ -1,5 +1,5 @@
 -- Plans of blocks: how a block is cut, its best inherited hops, and the routes that follow.
-use Rattle.std.specs.Prelude.{◌≡◌, ℕ, suc, ◌+◌, Bool, true, false, cond, List, [], ◌∷◌, ◌++◌, length, Option, Some, ⊤}
+use Rattle.std.specs.Prelude.{◌≡◌, ℕ, suc, ◌+◌, Bool, true, false, cond, List, [], ◌∷◌, ◌++◌, length, Option, Some}
 use Rattle.ipnet_blocks.specs.BitStrings.{begins}
 use Rattle.least_table.specs.Tables.{half_of, inner_of, inside, within}
 use Rattle.least_table.specs.HopSets.{is_same_hop, holds, first_hop}
@@ -56,9 +56,3 @@ abbrev pub plan_routes : LeastPlan → Option ℕ → List (List Bool × Option 
 plan_routes (Leaf k) s = with_best (Some k ∷ []) (λ i. []) s
 plan_routes (Fork hops l r) s = with_best hops (λ i. inside false (plan_routes l i) ++ inside true (plan_routes r i)) s
 plan_routes (Skip k hops b ds t) s = with_best hops (λ i. beside b k i (within ds (plan_routes t i))) s
-
--- the tree cuts a block of w bits no further than into single addresses
-abbrev pub PlanFits : ℕ → LeastPlan → Type 0
-PlanFits w (Leaf k) = ⊤
-PlanFits w (Fork hops l r) = (v : ℕ) × (w ≡ suc v) × PlanFits v l × PlanFits v r
-PlanFits w (Skip k hops b ds t) = (v : ℕ) × (w ≡ suc (length ds + v)) × PlanFits v t

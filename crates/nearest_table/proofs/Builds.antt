@@ -1,5 +1,5 @@
 -- Plans of blocks, from the changes and the routes inside.
-use Rattle.std.proofs.Common.{◌≡◌, ℕ, zero, suc, ◌-◌, ◌<◌, ◌≤◌, Bool, true, false, List, [], ◌∷◌, ◌++◌, length, replicate, Option, Some, None, MatchOption, refl, sym, ap, ap₂, ◌∙◌, subst, arith, length-append}
+use Rattle.std.proofs.Common.{◌≡◌, ℕ, zero, suc, ◌-◌, ◌<◌, ◌≤◌, Bool, true, false, List, [], ◌∷◌, ◌++◌, length, replicate, Option, Some, None, refl, sym, ap, ap₂, ◌∙◌, subst, arith, length-append}
 use Rattle.std.proofs.Math.ListN.{length-replicate}
 use Rattle.least_table.specs.BestHops.{Any, Of}
 use Rattle.nearest_table.specs.InnerPlans.{HasMore, IsJoined, IsTold, Plans, owned_tree, tree_of}
@@ -10,8 +10,7 @@ use Rattle.least_table.specs.Wholes.{without_own}
 use Rattle.nearest_table.specs.Blocks.{inner, IsCovered, innermost_route}
 use Rattle.nearest_table.specs.Told.{new_hop}
 use Rattle.nearest_table.specs.declared.plans.Plan.{Plan, One, Idle}
-use Rattle.least_table.proofs.Split.{hop-half, IsBitTable-half}
-use Rattle.least_table.proofs.Owns.{IsBitTable-bare, own-bare, half-bare, same_hops}
+use Rattle.least_table.proofs.Split.{hop-half, IsBitTable-half, IsBitTable-bare, own-bare, half-bare, same_hops}
 use Rattle.nearest_table.proofs.TreeEdits.{no_bare}
 
 -- a plan for one function of hops is one for the same
@@ -31,8 +30,7 @@ plan_same w h g t (Held k p) e plan = (plan.0, plan_same w h g (without_own t) p
 -- ---- the hops inside a block
 
 pub passed_told : (o : Option (Option ℕ)) (c : Option (Option ℕ)) (k : Option ℕ) → passed (passed k o) c ≡ passed k (innermost_route o c)
-passed_told o None k = refl
-passed_told o (Some j) k = refl
+passed_told o c k = grind arith
 
 pub hop-new_half : (told : Option (Option ℕ)) (old : Option ℕ) (cs t : List (List Bool × Option ℕ)) (b : Bool) (x : List Bool) → new_hop told old cs t (b ∷ x) ≡ new_hop (innermost_route told (own cs)) (passed old (own t)) (half cs b) (half t b) x
 hop-new_half told old cs t b x =
@@ -54,11 +52,7 @@ leaf_hop w s t table e x = same_hops w s (passed s (own t)) t [] table tt refl (
 -- ---- blocks that need no cut
 
 empty_changes : (told : Option (Option ℕ)) (cs : List (List Bool × Option ℕ)) → IsTold told cs → told ≡ None → without_own cs ≡ [] → cs ≡ []
-empty_changes told cs h e f = sym (no_bare cs (none (own cs) (sym h.1 ∙ e))) ∙ f
-  where
-    none : (c : Option (Option ℕ)) → innermost_route h.0 c ≡ None → c ≡ None
-    none None e = refl
-    none (Some k) e = cc
+empty_changes told cs h e f = sym (no_bare cs (grind (arith, h.1, e))) ∙ f
 
 module _ (w : ℕ) (old : Option ℕ) (told : Option (Option ℕ)) (cs t : List (List Bool × Option ℕ)) (h : IsTold told cs) (leaf : without_own cs ≡ []) where
   stays : told ≡ None → (x : List Bool) → new_hop told old cs t x ≡ hop_inheriting old t x
@@ -82,12 +76,8 @@ rises_owned (Some k) p q e h = subst (λ p. Rises (tree_best p)) (sym e) tt
 pub told_plan : (w : ℕ) (old k : Option ℕ) (told o : Option (Option ℕ)) (cs t : List (List Bool × Option ℕ)) (p : Plan) → IsBitTable w cs → IsTold told cs → without_own cs ≡ [] → told ≡ Some k → without_own t ≡ [] → o ≡ own t → tree_of p ≡ owned_tree o (Stay (Of (k ∷ []))) → Plans w told old cs t p
 told_plan w old k told o cs t p table h leaf e f held is = (subst (IsPlan w (new_hop told old cs t) t) (sym is) (owned_plan w (new_hop told old cs t) t o (Stay (Of (k ∷ []))) held (k, (refl, same, replicate w false, length-replicate w false, ap (λ u. longest_route u (replicate w false)) f))), rises_owned o (tree_of p) (Stay (Of (k ∷ []))) is (tt, tt))
   where
-    hop_is : (c : Option (Option ℕ)) → innermost_route h.0 c ≡ Some k → passed k c ≡ k
-    hop_is None e = refl
-    hop_is (Some j) e = cc
-
     same : (x : List Bool) → length x ≡ w → new_hop told old cs t x ≡ hop_inheriting k (without_own t) x
-    same x l = ap (λ o. new_hop o old cs t x) e ∙ leaf_hop w k cs table leaf x ∙ hop_is (own cs) (sym h.1 ∙ e) ∙ sym (ap (λ u. hop_inheriting k u x) f)
+    same x l = ap (λ o. new_hop o old cs t x) e ∙ leaf_hop w k cs table leaf x ∙ grind (arith, h.1, e) ∙ sym (ap (λ u. hop_inheriting k u x) f)
 
 -- ---- halves
 
@@ -106,14 +96,11 @@ can_cut zero cs t c i h = absurd (h (no_bits cs c) (no_bits t i))
 can_cut (suc w) cs t c i h = omega arith
 
 module _ (W : ℕ) (b : List Bool) (short : length b < W) where
-  pub less : (c : Bool) (b' : List Bool) → b' ≡ b ++ c ∷ [] → suc (W - length b') ≡ W - length b
-  less c b' e = omega (arith, short, ap length e, length-append b (c ∷ []))
-
-  pub fits_half : (c : Bool) (b' : List Bool) → b' ≡ b ++ c ∷ [] → length b' ≤ W
-  fits_half c b' e = omega (arith, short, ap length e, length-append b (c ∷ []))
+  pub less : (c : Bool) (b' : List Bool) → b' ≡ b ++ c ∷ [] → (suc (W - length b') ≡ W - length b) × (length b' ≤ W)
+  less c b' e = (omega (arith, short, ap length e, length-append b (c ∷ [])), omega (arith, short, ap length e, length-append b (c ∷ [])))
 
   pub table_half : (c : Bool) (b' : List Bool) (t : List (List Bool × Option ℕ)) → b' ≡ b ++ c ∷ [] → IsBitTable (W - length b) (inner b t) → IsBitTable (W - length b') (inner b' t)
-  table_half c b' t e h = subst (IsBitTable (W - length b')) (sym (ap (λ d. inner d t) e ∙ inner-more b c t)) (IsBitTable-half (W - length b') (inner b t) c (subst (λ w. IsBitTable w (inner b t)) (sym (less c b' e)) h))
+  table_half c b' t e h = subst (IsBitTable (W - length b')) (sym (ap (λ d. inner d t) e ∙ inner-more b c t)) (IsBitTable-half (W - length b') (inner b t) c (subst (λ w. IsBitTable w (inner b t)) (sym (less c b' e).0) h))
 
   -- the plan of a half, as one of the whole's hops
   half_plan : (c : Bool) (b' : List Bool) (told here held : Option (Option ℕ)) (old k : Option ℕ) (cs t : List (List Bool × Option ℕ)) (p : Tree) → b' ≡ b ++ c ∷ [] → here ≡ innermost_route told (own (inner b cs)) → held ≡ own (inner b t) → k ≡ passed old held
@@ -142,17 +129,10 @@ module _ (W : ℕ) (b : List Bool) (short : length b < W) where
       high = subst (λ n. IsPlan (W - n) (half_of true (new_hop told old (inner b cs) (inner b t))) (half (without_own (inner b t)) true) (tree_of r)) same_bits (half_plan true b1 told here held old k cs t (tree_of r) e1 f g i pr.0)
 
       plain : IsBitTable (suc (W - length b0)) (without_own (inner b t))
-      plain = IsBitTable-bare (suc (W - length b0)) (inner b t) (subst (λ w. IsBitTable w (inner b t)) (sym (less false b0 e0)) table)
+      plain = IsBitTable-bare (suc (W - length b0)) (inner b t) (subst (λ w. IsBitTable w (inner b t)) (sym (less false b0 e0).0) table)
 
       joined : IsPlan (W - length b) (new_hop told old (inner b cs) (inner b t)) (without_own (inner b t)) (tree_of q)
-      joined = subst (λ w. IsPlan w (new_hop told old (inner b cs) (inner b t)) (without_own (inner b t)) (tree_of q)) (less false b0 e0) (is.0 (W - length b0) (new_hop told old (inner b cs) (inner b t)) (without_own (inner b t)) plain (own-bare (inner b t)) low high)
-
--- the two results of a block that may need no cut
-pub from_end : (A : Type 0) (P : Plan → Type 0) (o : Option Plan) (p : Plan) → o ≡ Some p → MatchOption o A P → P p
-from_end A P o p e h = subst (λ o. MatchOption o A P) e h
-
-pub not_end : (A : Type 0) (P : Plan → Type 0) (o : Option Plan) → o ≡ None → MatchOption o A P → A
-not_end A P o e h = subst (λ o. MatchOption o A P) e h
+      joined = subst (λ w. IsPlan w (new_hop told old (inner b cs) (inner b t)) (without_own (inner b t)) (tree_of q)) (less false b0 e0).0 (is.0 (W - length b0) (new_hop told old (inner b cs) (inner b t)) (without_own (inner b t)) plain (own-bare (inner b t)) low high)
 
 pub told_same : (w : ℕ) (told here : Option (Option ℕ)) (old : Option ℕ) (cs t : List (List Bool × Option ℕ)) (p : Plan) → IsBitTable w cs → here ≡ innermost_route told (own cs) → Plans w here old cs t p → Plans w told old cs t p
 told_same w told here old cs t p table e plan = (plan_same w (new_hop here old cs t) (new_hop told old cs t) t (tree_of p) (λ x l. new_same w told old cs t table x ∙ ap (λ o. new_hop o old cs t x) (sym e)) plan.0, plan.1)

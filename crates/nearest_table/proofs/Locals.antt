@@ -5,11 +5,9 @@ use Rattle.least_table.specs.Wholes.{whole}
 use Rattle.nearest_table.specs.Blocks.{put}
 use Rattle.least_table.specs.Nearest.{IsNearestTable, distance}
 use Rattle.nearest_table.specs.Laws.{LocalLaw}
-use Rattle.least_table.proofs.Distances.{change, distance-halves}
-use Rattle.least_table.proofs.Split.{hop-half, IsBitTable-half}
-use Rattle.least_table.proofs.Halves.{GivesHops-half, GivesHops-whole, change_same, change_cases, distance-whole}
+use Rattle.least_table.proofs.Distances.{change, change_same, change_cases, distance-halves, distance-whole, turned}
+use Rattle.least_table.proofs.Split.{GivesHops-half, GivesHops-whole, hop-half, IsBitTable-half}
 use Rattle.least_table.proofs.Makes.{distance-self}
-use Rattle.least_table.proofs.Owns.{turned}
 
 module _ (w : ℕ) (h : List Bool → Option ℕ) (s : Option ℕ) (t : List (List Bool × Option ℕ)) (table : IsBitTable (suc w) t) where
   abbrev pub p : Option ℕ

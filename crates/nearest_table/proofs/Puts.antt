@@ -13,12 +13,11 @@ use Rattle.least_table.specs.Wholes.{without_own, whole}
 use Rattle.nearest_table.specs.Blocks.{inherited_hop, inner, put, around, innermost_route}
 use Rattle.nearest_table.specs.Told.{new_hop, told_hop}
 use Rattle.nearest_table.specs.declared.plans.Plan.{Plan}
-use Rattle.least_table.proofs.Stores.{within-whole, within_within}
-use Rattle.least_table.proofs.Split.{hop-half, joined, own-joined, IsBitTable-half}
+use Rattle.least_table.proofs.LeastPlans.{within-whole, within_within}
+use Rattle.least_table.proofs.Split.{hop-half, joined, own-bare, half-bare, own-joined, IsBitTable-half}
 use Rattle.nearest_table.proofs.Builds.{passed_told}
 use Rattle.least_table.proofs.Makes.{distance-self}
 use Rattle.nearest_table.proofs.Locals.{local_law}
-use Rattle.least_table.proofs.Owns.{own-bare, half-bare}
 use Rattle.nearest_table.proofs.NewOrders.{ordered_new, ordered_put}
 use Rattle.nearest_table.proofs.Trees.{plans_law}
 use Rattle.nearest_table.proofs.TreeEdits.{edits-joined, edits-kept, edits-none, edits_law, held_first, ordered_bare, ordered_half, ordered_split}

@@ -1,12 +1,11 @@
 -- Plans of blocks by those of their halves.
 use Rattle.std.proofs.Common.{◌≡◌, ℕ, suc, Bool, true, false, List, [], ◌∷◌, length, Option, None, refl, sym, ap, ◌∙◌, subst, arith}
-use Rattle.least_table.specs.BestHops.{Any, Of, AreMerged}
+use Rattle.least_table.specs.BestHops.{Any, Of}
 use Rattle.nearest_table.specs.InnerPlans.{IsFork, IsJoined, OfHalves, tree_of}
-use Rattle.nearest_table.specs.Plans.{Stay, tree_best, IsPlan}
+use Rattle.nearest_table.specs.Plans.{Stay}
 use Rattle.nearest_table.specs.Blocks.{Covers}
 use Rattle.least_table.specs.Tables.{half, half_of, hop_inheriting, own, passed}
-use Rattle.nearest_table.specs.Wanted.{wanted_hops}
-use Rattle.nearest_table.specs.declared.plans.Plan.{Plan, Fork', Held', One, Idle}
+use Rattle.nearest_table.specs.declared.plans.Plan.{Plan, Fork', One, Idle}
 use Rattle.nearest_table.proofs.Coverings.{half_covered, half_free}
 use Rattle.least_table.proofs.Split.{hop-half}
 use Rattle.nearest_table.proofs.Trees.{covered}
@@ -36,51 +35,25 @@ module _ (v : ℕ) (h : List Bool → Option ℕ) (t : List (List Bool × Option
 same_one : (j k : Option ℕ) → j ∷ [] ≡ k ∷ [] → k ≡ j
 same_one j k e = cc
 
-idle_idle : OfHalves (Stay Any) (Stay Any) Idle
+pub idle_idle : OfHalves (Stay Any) (Stay Any) Idle
 idle_idle v h t table none l r = (l.0, (both v h t none l.0 l.1.0 (turn v h t none true r.0 l.0 r.1.0 r.1.1), covers v h t none l.1.1 r.1.1))
 
-one_idle : (k : Option ℕ) → OfHalves (Stay (Of (k ∷ []))) (Stay Any) (One k)
+pub one_idle : (k : Option ℕ) → OfHalves (Stay (Of (k ∷ []))) (Stay Any) (One k)
 one_idle k v h t table none l r =
     let e : l.0 ≡ k = same_one k l.0 l.1.0 in
     (k, (refl, both v h t none k (subst (Same v h t none false) e l.1.1) (turn v h t none true r.0 k r.1.0 r.1.1), false ∷ l.1.2, ap suc l.1.3, half_free t false l.1.2 none l.1.4))
 
-idle_one : (k : Option ℕ) → OfHalves (Stay Any) (Stay (Of (k ∷ []))) (One k)
+pub idle_one : (k : Option ℕ) → OfHalves (Stay Any) (Stay (Of (k ∷ []))) (One k)
 idle_one k v h t table none l r =
     let e : r.0 ≡ k = same_one k r.0 r.1.0 in
     (k, (refl, both v h t none k (turn v h t none false l.0 k l.1.0 l.1.1) (subst (Same v h t none true) e r.1.1), true ∷ r.1.2, ap suc r.1.3, half_free t true r.1.2 none r.1.4))
 
-one_one : (k : Option ℕ) → OfHalves (Stay (Of (k ∷ []))) (Stay (Of (k ∷ []))) (One k)
+pub one_one : (k : Option ℕ) → OfHalves (Stay (Of (k ∷ []))) (Stay (Of (k ∷ []))) (One k)
 one_one k v h t table none l r =
     let d : l.0 ≡ k = same_one k l.0 l.1.0 in
     let e : r.0 ≡ k = same_one k r.0 r.1.0 in
     (k, (refl, both v h t none k (subst (Same v h t none false) d l.1.1) (subst (Same v h t none true) e r.1.1), false ∷ l.1.2, ap suc l.1.3, half_free t false l.1.2 none l.1.4))
 
--- the same as the code stores them
-pub stay_idle_idle : (low high : Plan) → low ≡ Idle → high ≡ Idle → IsJoined (tree_of low) (tree_of high) Idle
-stay_idle_idle low high e f = (subst (λ p. OfHalves (tree_of p) (tree_of high) Idle) (sym e) (subst (λ q. OfHalves (Stay Any) (tree_of q) Idle) (sym f) idle_idle), tt)
-
-pub stay_one_idle : (low high : Plan) (k : Option ℕ) → low ≡ One k → high ≡ Idle → IsJoined (tree_of low) (tree_of high) (One k)
-stay_one_idle low high k e f = (subst (λ p. OfHalves (tree_of p) (tree_of high) (One k)) (sym e) (subst (λ q. OfHalves (Stay (Of (k ∷ []))) (tree_of q) (One k)) (sym f) (one_idle k)), (tt, tt))
-
-pub stay_idle_one : (low high : Plan) (k : Option ℕ) → low ≡ Idle → high ≡ One k → IsJoined (tree_of low) (tree_of high) (One k)
-stay_idle_one low high k e f = (subst (λ p. OfHalves (tree_of p) (tree_of high) (One k)) (sym e) (subst (λ q. OfHalves (Stay Any) (tree_of q) (One k)) (sym f) (idle_one k)), (tt, tt))
-
-pub stay_one_one : (low high p : Plan) (j k : Option ℕ) → low ≡ One j → high ≡ One k → j ≡ k → p ≡ One j → IsJoined (tree_of low) (tree_of high) p
-stay_one_one low high p j k e f g is =
-    subst (IsJoined (tree_of low) (tree_of high)) (sym is) (subst (λ p. OfHalves (tree_of p) (tree_of high) (One j)) (sym e) (subst (λ q. OfHalves (Stay (Of (j ∷ []))) (tree_of q) (One j)) (sym (f ∙ ap One (sym g))) (one_one j)), (tt, tt))
-
 pub fork_halves : (low high p : Plan) → IsFork low high p → IsJoined (tree_of low) (tree_of high) p
-fork_halves low high Idle is = absurd is
-fork_halves low high (One k) is = absurd is
-fork_halves low high (Held' k u p) is = absurd is
-fork_halves low high (Fork' hops u l q r) is = (
-  (λ v h t table none a b. (
-    v,
-    refl,
-    none,
-    subst (λ x. AreMerged (tree_best (tree_of x)) (tree_best (tree_of r)) (wanted_hops hops)) (sym is.0) (subst (λ y. AreMerged (tree_best (tree_of low)) (tree_best (tree_of y)) (wanted_hops hops)) (sym is.1) is.2),
-    subst (λ x. IsPlan v (half_of false h) (half t false) (tree_of x)) (sym is.0) a,
-    subst (λ x. IsPlan v (half_of true h) (half t true) (tree_of x)) (sym is.1) b,
-  )),
-  is.3,
-)
+fork_halves low high (Fork' hops u l q r) is = ((λ v h t table none a b. (v, refl, none, rw (is.0, is.1) is.2, rw is.0 a, rw is.1 b)), is.3)
+fork_halves low high p is = absurd is

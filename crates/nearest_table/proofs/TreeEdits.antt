@@ -13,85 +13,71 @@ use Rattle.least_table.specs.Tables.{IsBitTable, half, half_of, own, inside}
 use Rattle.least_table.specs.Wholes.{without_own, whole, with_own}
 use Rattle.least_table.proofs.Distances.{has-half, has-own, is_own, stores-half, stores-own}
 use Rattle.least_table.proofs.Sets.{same_hop-refl}
-use Rattle.least_table.proofs.Split.{joined, half-joined, IsBitTable-half}
-use Rattle.least_table.proofs.Owns.{own-bare, half-bare, own-with, half-with, IsBitTable-bare}
-use Rattle.least_table.proofs.Makes.{distance-self, own_covers}
+use Rattle.least_table.proofs.Split.{joined, half-joined, own_covers, own-bare, half-bare, own-with, half-with, IsBitTable-bare, IsBitTable-half}
+use Rattle.least_table.proofs.Makes.{distance-self}
 use Rattle.nearest_table.proofs.Trees.{first_best, other_hop, plain}
 
 -- ---- tables in order
 
 before_half : (a : List Bool) (t : List (List Bool × Option ℕ)) (b : Bool) → ComesBeforeAll (b ∷ a) t → ComesBeforeAll a (half t b)
 before_half a [] b h = tt
-before_half a (([], k) ∷ t) b h = before_half a t b h.1
 before_half a ((false ∷ c, k) ∷ t) false h = (h.0, before_half a t false h.1)
-before_half a ((false ∷ c, k) ∷ t) true h = before_half a t true h.1
-before_half a ((true ∷ c, k) ∷ t) false h = before_half a t false h.1
 before_half a ((true ∷ c, k) ∷ t) true h = (h.0, before_half a t true h.1)
+before_half a (_ ∷ t) b h = before_half a t b h.1
 
 pub ordered_half : (t : List (List Bool × Option ℕ)) (b : Bool) → IsInOrder t → IsInOrder (half t b)
 ordered_half [] b h = tt
-ordered_half (([], k) ∷ t) b h = ordered_half t b h.1
 ordered_half ((false ∷ c, k) ∷ t) false h = (before_half c t false h.0, ordered_half t false h.1)
-ordered_half ((false ∷ c, k) ∷ t) true h = ordered_half t true h.1
-ordered_half ((true ∷ c, k) ∷ t) false h = ordered_half t false h.1
 ordered_half ((true ∷ c, k) ∷ t) true h = (before_half c t true h.0, ordered_half t true h.1)
-
-before_bare : (a : List Bool) (t : List (List Bool × Option ℕ)) → ComesBeforeAll a t → ComesBeforeAll a (without_own t)
-before_bare a [] h = tt
-before_bare a (([], k) ∷ t) h = before_bare a t h.1
-before_bare a ((b ∷ c, k) ∷ t) h = (h.0, before_bare a t h.1)
+ordered_half (_ ∷ t) b h = ordered_half t b h.1
 
 pub ordered_bare : (t : List (List Bool × Option ℕ)) → IsInOrder t → IsInOrder (without_own t)
 ordered_bare [] h = tt
 ordered_bare (([], k) ∷ t) h = ordered_bare t h.1
-ordered_bare ((b ∷ c, k) ∷ t) h = (before_bare (b ∷ c) t h.0, ordered_bare t h.1)
+ordered_bare ((b ∷ c, k) ∷ t) h = (before_bare t h.0, ordered_bare t h.1)
+  where
+    before_bare : (t : List (List Bool × Option ℕ)) → ComesBeforeAll (b ∷ c) t → ComesBeforeAll (b ∷ c) (without_own t)
+    before_bare [] h = tt
+    before_bare (([], k) ∷ t) h = before_bare t h.1
+    before_bare (_ ∷ t) h = (h.0, before_bare t h.1)
 
 -- the route of the whole block comes first
 no_own : (a : List Bool) (t : List (List Bool × Option ℕ)) → ComesBeforeAll a t → own t ≡ None
 no_own a [] h = refl
-no_own [] (([], k) ∷ t) h = let e = h.0 in cc
-no_own (x ∷ a) (([], k) ∷ t) h = let e = h.0 in cc
 no_own a ((b ∷ c, k) ∷ t) h = no_own a t h.1
+no_own [] (r ∷ t) h = let e = h.0 in cc
+no_own _ (r ∷ t) h = let e = h.0 in cc
 
 no_low : (a : List Bool) (t : List (List Bool × Option ℕ)) → ComesBeforeAll (true ∷ a) t → half t false ≡ []
 no_low a [] h = refl
-no_low a (([], k) ∷ t) h = let e = h.0 in cc
-no_low a ((false ∷ c, k) ∷ t) h = let e = h.0 in cc
 no_low a ((true ∷ c, k) ∷ t) h = no_low a t h.1
+no_low a (_ ∷ t) h = let e = h.0 in cc
 
 pub ordered_split : (t : List (List Bool × Option ℕ)) → IsInOrder t → t ≡ whole (own t) (half t false) (half t true)
 ordered_split [] h = refl
-ordered_split (([], k) ∷ t) h = ap (λ u. ([], k) ∷ u) (ordered_split t h.1 ∙ ap (λ o. whole o (half t false) (half t true)) (no_own [] t h.0))
-ordered_split ((false ∷ c, k) ∷ t) h =
-    ap (λ u. (false ∷ c, k) ∷ u) (ordered_split t h.1 ∙ ap (λ o. whole o (half t false) (half t true)) (no_own (false ∷ c) t h.0))
-    ∙ ap (λ o. whole o ((c, k) ∷ half t false) (half t true)) (sym (no_own (false ∷ c) t h.0))
-ordered_split ((true ∷ c, k) ∷ t) h =
-    ap (λ u. (true ∷ c, k) ∷ u) (ordered_split t h.1 ∙ ap₂ (λ o l. whole o l (half t true)) (no_own (true ∷ c) t h.0) (no_low c t h.0))
-    ∙ ap₂ (λ o l. whole o l ((c, k) ∷ half t true)) (sym (no_own (true ∷ c) t h.0)) (sym (no_low c t h.0))
+ordered_split (([], k) ∷ t) h = grind (arith, ordered_split t h.1, no_own [] t h.0)
+ordered_split ((false ∷ c, k) ∷ t) h = grind (arith, ordered_split t h.1, no_own (false ∷ c) t h.0)
+ordered_split ((true ∷ c, k) ∷ t) h = grind (arith, ordered_split t h.1, no_own (true ∷ c) t h.0, no_low c t h.0)
 
 pub no_bare : (t : List (List Bool × Option ℕ)) → own t ≡ None → without_own t ≡ t
 no_bare [] e = refl
 no_bare (([], k) ∷ t) e = cc
-no_bare ((b ∷ c, k) ∷ t) e = ap (λ u. (b ∷ c, k) ∷ u) (no_bare t e)
+no_bare (_ ∷ t) e = cc (no_bare t e)
 
 pub held_first : (k : Option ℕ) (t : List (List Bool × Option ℕ)) → IsInOrder t → own t ≡ Some k → t ≡ ([], k) ∷ without_own t
 held_first k [] h e = cc
-held_first k (([], j) ∷ t) h e = ap₂ (λ i u. ([], i) ∷ u) (cc) (sym (no_bare t (no_own [] t h.0)))
+held_first k (([], j) ∷ t) h e = grind (arith, e, no_bare t (no_own [] t h.0))
 held_first k ((b ∷ c, j) ∷ t) h e = let f = no_own (b ∷ c) t h.0 in cc
 
 -- ---- missing and surplus routes, by halves
 
-kept_in : (b v : Bool) (r : List Bool × Option ℕ) (xs ys : List (List Bool × Option ℕ)) → xs ≡ inside b ys → cond v ((b ∷ r.0, r.1) ∷ xs) xs ≡ inside b (cond v (r ∷ ys) ys)
-kept_in b true r xs ys e = ap (λ u. (b ∷ r.0, r.1) ∷ u) e
-kept_in b false r xs ys e = e
-
 missing_in : (t : List (List Bool × Option ℕ)) (b : Bool) (l : List (List Bool × Option ℕ)) → missing_routes t (inside b l) ≡ inside b (missing_routes (half t b) l)
 missing_in t b [] = refl
-missing_in t b (r ∷ l) = ap (λ v. cond (not v) ((b ∷ r.0, r.1) ∷ missing_routes t (inside b l)) (missing_routes t (inside b l))) (has-half t b r.0 r.1) ∙ kept_in b (not (has (half t b) r)) r (missing_routes t (inside b l)) (missing_routes (half t b) l) (missing_in t b l)
+missing_in t b (r ∷ l) = grind (arith, has-half t b r.0 r.1, missing_in t b l)
 
 surplus_in : (u : List (List Bool × Option ℕ)) (b : Bool) (l : List (List Bool × Option ℕ)) → surplus_routes (inside b l) u ≡ inside b (surplus_routes l (half u b))
 surplus_in u b [] = refl
-surplus_in u b (r ∷ l) = ap (λ v. cond (not v) ((b ∷ r.0, r.1) ∷ surplus_routes (inside b l) u) (surplus_routes (inside b l) u)) (stores-half u b r.0) ∙ kept_in b (not (stores (half u b) r.0)) r (surplus_routes (inside b l) u) (surplus_routes l (half u b)) (surplus_in u b l)
+surplus_in u b (r ∷ l) = grind (arith, stores-half u b r.0, surplus_in u b l)
 
 missing-joined : (t l r : List (List Bool × Option ℕ)) → missing_routes t (joined l r) ≡ joined (missing_routes (half t false) l) (missing_routes (half t true) r)
 missing-joined t l r = filter-append (λ q. not (has t q)) (inside false l) (inside true r) ∙ ap₂ (λ x y. x ++ y) (missing_in t false l) (missing_in t true r)
@@ -104,18 +90,15 @@ surplus-joined u l r = filter-append (λ q. not (stores u q.0)) (inside false l)
 missing-bare : (t u : List (List Bool × Option ℕ)) → own u ≡ None → missing_routes t u ≡ missing_routes (without_own t) u
 missing-bare t [] e = refl
 missing-bare t (([], k) ∷ u) e = cc
-missing-bare t ((b ∷ c, k) ∷ u) e = ap₂ (λ v us. cond (not v) ((b ∷ c, k) ∷ us) us) (has-half t b c k ∙ ap (λ l. has l (c, k)) (sym (half-bare t b)) ∙ sym (has-half (without_own t) b c k)) (missing-bare t u e)
+missing-bare t ((b ∷ c, k) ∷ u) e = grind (arith, has-half t b c k, has-half (without_own t) b c k, half-bare t b, missing-bare t u e)
 
 surplus-with : (o : Option (Option ℕ)) (t u : List (List Bool × Option ℕ)) → own t ≡ None → surplus_routes t (with_own o u) ≡ surplus_routes t u
 surplus-with o [] u e = refl
 surplus-with o (([], k) ∷ t) u e = cc
-surplus-with o ((b ∷ c, k) ∷ t) u e = ap₂ (λ v us. cond (not v) ((b ∷ c, k) ∷ us) us) (stores-half (with_own o u) b c ∙ ap (λ l. stores l c) (half-with o u b) ∙ sym (stores-half u b c)) (surplus-with o t u e)
+surplus-with o ((b ∷ c, k) ∷ t) u e = grind (arith, stores-half (with_own o u) b c, stores-half u b c, half-with o u b, surplus-with o t u e)
 
-none_missing : (w : ℕ) (t : List (List Bool × Option ℕ)) → IsBitTable w t → missing_routes t t ≡ []
-none_missing w t h = nil_from_length (missing_routes t t) (omega (arith, distance-self w t h))
-
-none_left : (w : ℕ) (t : List (List Bool × Option ℕ)) → IsBitTable w t → surplus_routes t t ≡ []
-none_left w t h = nil_from_length (surplus_routes t t) (omega (arith, distance-self w t h))
+none_missing : (w : ℕ) (t : List (List Bool × Option ℕ)) → IsBitTable w t → (missing_routes t t ≡ []) × (surplus_routes t t ≡ [])
+none_missing w t h = let e = distance-self w t h in (nil_from_length (missing_routes t t) (omega (arith, e)), nil_from_length (surplus_routes t t) (omega (arith, e)))
 
 -- ---- edits
 
@@ -185,7 +168,7 @@ module _ (w : ℕ) (t u : List (List Bool × Option ℕ)) (k : Option ℕ) (es :
   edits-other j e = record { installs = sym (installs (Some j) false j refl e); removes = a.removes ∙ ap blocks (sym (leaves (Some j))) }
 
 pub edits-none : (w : ℕ) (t : List (List Bool × Option ℕ)) → IsBitTable w t → AreEdits t t []
-edits-none w t table = record { installs = sym (none_missing w t table); removes = ap blocks (sym (none_left w t table)) }
+edits-none w t table = let none = none_missing w t table in record { installs = sym none.0; removes = ap blocks (sym none.1) }
 
 -- ---- plans
 

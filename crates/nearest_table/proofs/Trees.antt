@@ -4,28 +4,21 @@ use Rattle.std.proofs.lemmas.Bool.{false_from_ne_true}
 use Rattle.least_table.specs.BestHops.{Hops, Of, Any, wants, first_best_hop, agree, AreBest}
 use Rattle.least_table.specs.HopSets.{is_same_hop, holds, extra_route, first_hop}
 use Rattle.least_table.specs.Nearest.{IsLeastDistance, distance}
-use Rattle.least_table.specs.Tables.{IsBitTable, half, half_of, matched_hop, hop_inheriting, longest_route, own, passed}
+use Rattle.least_table.specs.Tables.{IsBitTable, half, half_of, hop_inheriting, longest_route, own, passed}
 use Rattle.least_table.specs.Wholes.{without_own, with_own}
 use Rattle.nearest_table.specs.Blocks.{Covers}
 use Rattle.nearest_table.specs.Laws.{PlansLaw}
 use Rattle.nearest_table.specs.Plans.{Tree, Stay, Fork, Held, tree_best, IsPlan, new_table}
-use Rattle.least_table.proofs.Distances.{change}
-use Rattle.least_table.proofs.Halves.{change_same}
-use Rattle.least_table.proofs.Makes.{Makes, Best-stay, distance-self, fork_made, made_nearest, stay_made}
-use Rattle.least_table.proofs.Merges.{Best-fork, first-wanted}
-use Rattle.least_table.proofs.Owns.{own-bare, IsBitTable-bare, GivesHops-with, below, distance-below, distance-with, own_fewest, half-bare}
+use Rattle.least_table.proofs.Distances.{below, change, change_same, distance-below, distance-with, own_law}
+use Rattle.least_table.proofs.Makes.{Makes, Best-fork, Best-stay, distance-self, first-wanted, fork_made, made_nearest, stay_made}
 use Rattle.least_table.proofs.Sets.{one_holds, same_hop-true}
-use Rattle.least_table.proofs.Split.{own-joined, IsBitTable-half}
+use Rattle.least_table.proofs.Split.{GivesHops-with, half-bare, IsBitTable-bare, IsBitTable-half, own-bare, own-joined}
 
 -- ---- blocks whose routes stay
 
 -- if an address has a route, the inherited hop doesn't count
 pub covered : (s k : Option ℕ) (t : List (List Bool × Option ℕ)) (x : List Bool) → (longest_route t x ≡ None → ⊥) → hop_inheriting s t x ≡ hop_inheriting k t x
-covered s k t x c = go (longest_route t x) c
-  where
-    go : (m : Option (List Bool × Option ℕ)) → (m ≡ None → ⊥) → matched_hop s m ≡ matched_hop k m
-    go None c = absurd (c refl)
-    go (Some r) c = refl
+covered s k t x c = grind (arith, c)
 
 stays_any : (w : ℕ) (h : List Bool → Option ℕ) (t : List (List Bool × Option ℕ)) → IsBitTable w t → (k : Option ℕ) → ((x : List Bool) → length x ≡ w → h x ≡ hop_inheriting k t x) → Covers w t → (s : Option ℕ) → Makes w h s t t 0
 stays_any w h t table k same c s = record { gives = record { table = table; same = λ x l. covered s k t x (c x l) ∙ sym (same x l) }; far = distance-self w t table }
@@ -50,7 +43,7 @@ Best-plan w h t (Held k p) table plan =
     let b = Best-plan w h (without_own t) p (IsBitTable-bare w t table) plan.1 in
     record {
       some = (None, refl);
-      needs = λ s. subst (IsLeastDistance w h t s) (omega arith) (own_fewest w h t table k plan.0 s (count p + extra_route (wants (tree_best p) k)) (b.needs k));
+      needs = λ s. subst (IsLeastDistance w h t s) (omega arith) (own_law w h t table k plan.0 s (count p + extra_route (wants (tree_best p) k)) (b.needs k));
     }
 
 -- the first best hop is one of them, and so differs from a hop that isn't

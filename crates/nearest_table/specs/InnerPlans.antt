@@ -19,10 +19,8 @@ tree_of (Held' k q p) = trees.Held k (tree_of p)
 
 -- the plan cuts the block into halves with these plans
 abbrev pub IsFork : Plan → Plan → Plan → Type 0
-IsFork low high Idle = ⊥
-IsFork low high (One k) = ⊥
 IsFork low high (Fork' hops p l q r) = (l ≡ low) × (r ≡ high) × AreMerged (tree_best (tree_of low)) (tree_best (tree_of high)) (wanted_hops hops) × Rises (wanted_hops hops)
-IsFork low high (Held' k q p) = ⊥
+IsFork low high _ = ⊥
 
 -- p is a plan of each block without a route whose halves have the plans l and r
 abbrev pub OfHalves : Tree → Tree → Plan → Type 0

@@ -1,6 +1,6 @@
 use Rattle.std.proofs.Common.{◌∙◌, sym, rules, subst}
 use Rattle.least_table.specs.InnerRising.{AllLeft}
-use Rattle.least_table.proofs.Risings.{tail, step_all_low, step_all_high}
+use Rattle.least_table.proofs.Sets.{tail, step_all_low, step_all_high}
 use Rattle.least_table.proofs.hops.all.Goals as goal
 
 pub loop-a-preserved-in_ok-push : goal.loop-a-preserved-in_ok-push

@@ -1,5 +1,5 @@
 use Rattle.std.proofs.Common.{◌-◌, arith}
-use Rattle.least_table.proofs.Gathers.{ascended}
+use Rattle.least_table.proofs.Lowers.{ascended}
 use Rattle.least_table.proofs.plan.Steps.ascend.Goals as goal
 
 pub widen-requires : goal.widen-requires
@@ -14,5 +14,5 @@ loop-at-preserved c = record {
   plans = λ w ps xs fit before.
       let h = c.loop-at.invariant.plans w ps xs fit before in
       let r = c.in_ok-widen.ensures xs h.plan h.ends in
-      ascended w c.args.path.now (c.loop-at.at - 1) c.loop-at.at c.bit.result ps xs c.loop-at.self c.widen.new.self fit (omega (arith, c.loop-at-test.true)) c.loop-at.invariant.inside c.bit.ensures h r.0 r.1 r.2;
+      ascended w c.args.path.now (c.loop-at.at - 1) c.loop-at.at ps xs c.loop-at.self c.widen.new.self fit (omega (arith, c.loop-at-test.true)) c.loop-at.invariant.inside h r.0 (rw c.bit.ensures at r.1) r.2;
 }

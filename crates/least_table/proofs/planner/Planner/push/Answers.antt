@@ -1,21 +1,21 @@
-use Rattle.std.proofs.Common.{◌++◌, ◌∷◌, [], refl, subst, sym}
-use Rattle.least_table.specs.Pieces.{AreDisjoint}
+use Rattle.std.proofs.Common.{◌∷◌, [], refl}
 use Rattle.least_table.specs.InnerPacked.{steps_in}
-use Rattle.least_table.specs.InnerPlanners.{EndAt}
 use Rattle.least_table.proofs.Lowers.{piece_planned}
 use Rattle.least_table.proofs.planner.Planner.push.Goals as goal
 
 pub begin-requires-clause-after : goal.begin-requires-clause-after
-begin-requires-clause-after g c = (c.requires.after.0, c.args.hop, c.requires.after.1, subst (λ z. AreDisjoint (c.requires.after.0 ++ (z, c.args.hop) ∷ [])) (sym c.path_of-path.ensures.value) c.requires.after.2)
+begin-requires-clause-after g c = (c.requires.after.0, c.args.hop, c.requires.after.1, rw c.path_of-path.ensures.value c.requires.after.2)
 
 pub push_leaf-requires : goal.push_leaf-requires
-push_leaf-requires g c = (c.in_ok-begin.ensures c.requires.after.0 c.args.hop c.requires.after.1 (subst (λ z. AreDisjoint (c.requires.after.0 ++ (z, c.args.hop) ∷ [])) (sym c.path_of-path.ensures.value) c.requires.after.2)).1
+push_leaf-requires g c = (c.in_ok-begin.ensures c.requires.after.0 c.args.hop c.requires.after.1 (rw c.path_of-path.ensures.value c.requires.after.2)).1
 
 pub returns : goal.returns
 returns g c = λ ps h d.
     let z = c.path_of-path.result in
-    let b = c.in_ok-begin.ensures ps c.args.hop h (subst (λ u. AreDisjoint (ps ++ (u, c.args.hop) ∷ [])) (sym c.path_of-path.ensures.value) d) in
-    subst (λ u. EndAt g.P.R.Key.width z (ps ++ (u, c.args.hop) ∷ []) c.begin.new.self.lowers.items c.push_leaf.new.self) c.path_of-path.ensures.value record {
+    let steps = steps_in c.begin.new.self.steps in
+    let b = c.in_ok-begin.ensures ps c.args.hop h (rw c.path_of-path.ensures.value d) in
+    let grown = c.in_ok-push_leaf.ensures in
+    rw (← c.path_of-path.ensures.value) (record {
       others = ps;
       hop = c.args.hop;
       last = refl;
@@ -23,9 +23,9 @@ returns g c = λ ps h d.
       planned = record {
         others = ps;
         pieces = (z, c.args.hop) ∷ [];
-        before = steps_in c.begin.new.self.steps;
+        before = steps;
         all = refl;
         lower = b.0;
-        plans = piece_planned g.P.R.Key.width z c.args.hop (steps_in c.begin.new.self.steps) c.push_leaf.new.self c.in_ok-push_leaf.ensures.steps c.in_ok-push_leaf.ensures.whole;
+        plans = piece_planned g.P.R.Key.width z c.args.hop steps c.push_leaf.new.self grown.steps grown.whole;
       };
-    }
+    })

@@ -1,14 +1,15 @@
 use Rattle.std.proofs.Common.{◌∙◌, ap, sym, ◌++◌}
+use Rattle.std.proofs.lemmas.Result.{on_ok_weaker}
 use Rattle.nearest_table.specs.InnerPlans.{tree_of}
 use Rattle.nearest_table.specs.Plans.{tree_best, edits_of}
 use Rattle.least_table.specs.Tables.{within}
 use Rattle.nearest_table.specs.Wanted.{hops_from, wanted_hops}
-use Rattle.nearest_table.proofs.Settles.{carried_fork, on_ok_map}
+use Rattle.nearest_table.proofs.Settles.{carried_fork}
 use Rattle.nearest_table.proofs.plans.Plan.+carry.Goals as goal
 
 pub returns-in_ok-carry-in-Fork : goal.returns-in_ok-carry-in-Fork
 returns-in_ok-carry-in-Fork t c =
-    on_ok_map c.carry-in-Fork.result
+    on_ok_weaker c.carry-in-Fork.result
     (λ e. carried_fork c.args.block.now c.extended.result c.extended-in-Fork.result (wanted_hops c.in-Fork.field-0) (hops_from c.best.result) (tree_of c.in-Fork.low.value) (tree_of c.in-Fork.high.value) c.args.inherited c.in_ok-passed-in-Fork.passed
     c.args.edits.now.items c.settle.new.edits.items c.carry.new.edits.items c.carry-in-Fork.new.edits.items
     (c.best.ensures ∙ ap (λ p. tree_best (tree_of p)) c.in-Fork.is) c.in_ok-passed-in-Fork.ensures.0 c.extended.ensures c.extended-in-Fork.ensures
