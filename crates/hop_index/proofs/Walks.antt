@@ -10,7 +10,7 @@ use Rattle.ipnet_blocks.proofs.Lists.{rising_cross}
 use Rattle.route_choices.proofs.Kept.{In-map, map_In}
 use Rattle.route_laws.specs.Flats.{Piece, IsFlat}
 use Rattle.route_laws.proofs.Flats.{Sooner, piece_at, same_piece, tells}
-use Rattle.route_laws.proofs.Ordered.{before_apart}
+use Rattle.route_laws.proofs.Matches.{before_apart}
 use Rattle.route_table.proofs.Openings.{rising_back}
 use Rattle.route_table.specs.Items.{BeginsWithRun, IsInRun, run_family, run_first, run_hop, run_last}
 use Rattle.route_table.specs.declared.hop_run.HopRun.{HopRun}

@@ -22,20 +22,16 @@ use Rattle.route_choices.proofs.ChoiceLists.{none_of}
 use Rattle.route_choices.proofs.Kept.{all_kept, map_same}
 use Rattle.route_laws.specs.Changes.{changed, same_number}
 use Rattle.route_laws.specs.Flats.{Piece, IsFlat, flat_of}
-use Rattle.route_laws.proofs.FlatSearch.{search_is_flat}
-use Rattle.route_laws.proofs.Flats.{same_flat}
+use Rattle.route_laws.proofs.Flats.{search_is_flat, same_flat}
 use Rattle.route_laws.proofs.NetworksAt.{of_network_at}
 use Rattle.route_laws.specs.Networks.{Stored, IsStoredTable, best_route, choices_at, routes_of, with_choices, with_stored, without_choice}
 use Rattle.route_table.specs.Refusals.{IsRefused}
 use Rattle.route_table.specs.declared.refused.AddRefused.{AddRefused}
 use Rattle.route_table.specs.declared.refused.AddRefused.TheVariants.{Store, TooMany}
 use Rattle.route_laws.specs.Tables.{Route, Changed, Governed, match_of, match_number, hop_at, without_block, item_of}
-use Rattle.route_laws.proofs.Alterations.{governed_after, no_blocks}
-use Rattle.route_laws.proofs.ChoiceChanges.{blocks_of_choices, changed_by_choices, choices_have_one_hop}
-use Rattle.route_laws.proofs.Changes.{changed_is_maximal, same_from_test, same_itself}
-use Rattle.route_laws.proofs.Networks.{at_cases, at_some, del_none, routes_are_table, routes_with, routes_without, stored_block, stored_choices}
-use Rattle.route_laws.proofs.Ordered.{put_itself}
-use Rattle.route_laws.proofs.Updates.{left_back, left_other}
+use Rattle.route_laws.proofs.Alterations.{governed_after, no_blocks, changed_is_maximal, same_from_test, same_itself, left_back, left_other}
+use Rattle.route_laws.proofs.Networks.{blocks_of_choices, changed_by_choices, choices_have_one_hop, at_cases, at_some, del_none, routes_are_table, routes_with, routes_without, stored_block, stored_choices}
+use Rattle.route_laws.proofs.Matches.{put_itself}
 use Rattle.route_program.specs.declared.counted.Counted.{Counted}
 use Rattle.route_program.specs.declared.error.RunError.{RunError}
 use Rattle.route_feed.specs.Replies.{printed}

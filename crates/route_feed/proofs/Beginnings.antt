@@ -17,8 +17,7 @@ use Rattle.route_lines.specs.declared.reply.Reply.TheVariants.{Close}
 use Rattle.route_laws.specs.Flats.{Piece, flat_of}
 use Rattle.route_laws.specs.Networks.{Stored, IsStoredTable, routes_of}
 use Rattle.route_laws.specs.Tables.{hop_at}
-use Rattle.route_laws.proofs.Flats.{same_flat}
-use Rattle.route_laws.proofs.FlatSearch.{search_is_flat}
+use Rattle.route_laws.proofs.Flats.{same_flat, search_is_flat}
 use Rattle.route_feed.specs.Laws.{AllAreAnswered, BeginningsAgree, BeginningsAreLines, CommandsAreInRange, FlatListsAgree, IsInRange, OutputIsFollowed, table_told}
 use Rattle.route_feed.specs.Output.{replies, table_after, refusals_after, whole_commands, at_end, lines_output, output}
 use Rattle.route_feed.specs.Replies.{printed}

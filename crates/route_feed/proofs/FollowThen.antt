@@ -16,8 +16,7 @@ use Rattle.route_lines.specs.declared.reply.Reply.TheVariants.{Close}
 use Rattle.route_laws.specs.Flats.{Piece, IsFlat, flat_of}
 use Rattle.route_laws.specs.Networks.{routes_of}
 use Rattle.route_laws.specs.Tables.{hop_at}
-use Rattle.route_laws.proofs.FlatSearch.{search_is_flat}
-use Rattle.route_laws.proofs.Flats.{same_flat}
+use Rattle.route_laws.proofs.Flats.{search_is_flat, same_flat}
 use Rattle.route_program.specs.declared.counted.Counted.{Counted}
 use Rattle.route_program.specs.declared.error.RunError.{RunError}
 use Rattle.route_program.specs.declared.error.RunError.TheVariants as Why

@@ -12,8 +12,8 @@ use Rattle.route_lines.specs.declared.reply.Reply.{Reply}
 use Rattle.route_laws.specs.Changes.{changed}
 use Rattle.route_laws.specs.Networks.{routes_of, with_choices}
 use Rattle.route_laws.specs.Tables.{Changed, Route, hop_at, match_number, match_of}
-use Rattle.route_laws.proofs.ChoiceChanges.{choices_have_one_hop}
-use Rattle.route_laws.proofs.Changes.{changed_is_maximal}
+use Rattle.route_laws.proofs.Networks.{choices_have_one_hop}
+use Rattle.route_laws.proofs.Alterations.{changed_is_maximal}
 use Rattle.route_feed.specs.Laws.{ChangesHaveOneHop}
 use Rattle.route_feed.specs.Steps.{change_line, change_lines}
 

@@ -22,7 +22,7 @@ use Rattle.route_laws.specs.LeastTables.{HasHops}
 use Rattle.route_laws.specs.Networks.{Stored, best_route, choices_at, routes_of, with_choice}
 use Rattle.route_laws.specs.Tables.{Route, IsTable}
 use Rattle.route_laws.proofs.NetworksAt.{of_network_at}
-use Rattle.route_laws.proofs.Listed.{added_last, hops_same, none_at, preferring, preferring_table}
+use Rattle.route_laws.proofs.FlatTables.{added_last, hops_same, none_at, preferring, preferring_table}
 use Rattle.route_laws.proofs.Networks.{routes_are_table}
 use Rattle.route_feed.specs.AddLines.{add_lines}
 use Rattle.route_feed.specs.Laws.{LinesKeepHops, LinesRebuild, LinesStayLeast, NoHopsNoLines, ShortenedAgree, alone, table_given}

@@ -23,11 +23,10 @@ use Rattle.route_laws.specs.Flats.{Piece, blocks_of, flat_of}
 use Rattle.route_laws.specs.Onwards.{count_of}
 use Rattle.route_laws.specs.Networks.{Stored, IsStoredTable, best_route, choices_at, routes_of, with_choices, without_choice}
 use Rattle.route_laws.specs.Tables.{Route, IsTable, hop_at, match_of, match_number, covering}
-use Rattle.route_laws.proofs.Changes.{changed_is_maximal}
-use Rattle.route_laws.proofs.FlatSearch.{search_is_flat}
+use Rattle.route_laws.proofs.Alterations.{changed_is_maximal}
+use Rattle.route_laws.proofs.Flats.{search_is_flat}
 use Rattle.route_laws.proofs.Matches.{AtLeast, best_of}
-use Rattle.route_laws.proofs.ChoiceChanges.{choices_have_one_hop}
-use Rattle.route_laws.proofs.Networks.{at_are, routes_are_table, stored_choices, with_choices_is}
+use Rattle.route_laws.proofs.Networks.{choices_have_one_hop, at_are, routes_are_table, stored_choices, with_choices_is}
 use Rattle.route_feed.specs.Steps.{Answer, closed, listed, change_line, change_lines, changed_to, route_line, flat_line, is_too_many, may_refuse, accepted, step}
 use Rattle.route_feed.specs.Streams.{Change, change_of, is_done, painted_over}
 use Rattle.route_feed.specs.InnerReplies.{choice_line, own_line}

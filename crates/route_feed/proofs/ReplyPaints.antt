@@ -11,7 +11,7 @@ use Rattle.ipnet_blocks.proofs.Maximals.{maximal_is_union}
 use Rattle.route_lines.specs.declared.reply.Reply.{Reply}
 use Rattle.route_laws.specs.Changes.{changed}
 use Rattle.route_laws.specs.Tables.{Route, Changed, hop_at}
-use Rattle.route_laws.proofs.Changes.{changed_is_maximal}
+use Rattle.route_laws.proofs.Alterations.{changed_is_maximal}
 use Rattle.route_laws.proofs.NetworksAt.{of_network_at}
 use Rattle.route_feed.specs.Steps.{change_line, change_lines}
 use Rattle.route_feed.specs.Streams.{Change, change_of, painted_over}

@@ -5,10 +5,9 @@ use Rattle.route_laws.specs.Changes.{route_for}
 use Rattle.route_laws.specs.Flats.{flat_of}
 use Rattle.route_laws.specs.Networks.{Stored, IsStoredTable, routes_of}
 use Rattle.route_laws.specs.Tables.{hop_at}
-use Rattle.route_laws.proofs.FlatSearch.{search_is_flat}
-use Rattle.route_laws.proofs.FlatTables.{flat_is_table}
+use Rattle.route_laws.proofs.Flats.{search_is_flat}
+use Rattle.route_laws.proofs.FlatTables.{flat_is_table, hops_of_table}
 use Rattle.route_laws.proofs.Networks.{routes_are_table}
-use Rattle.route_laws.proofs.TableHops.{hops_of_table}
 use Rattle.route_lines.specs.declared.command.Command.{Command}
 use Rattle.route_feed.specs.AddLines.{add_lines}
 use Rattle.route_feed.specs.Laws.{RestartedAgree, ToldIsTable, table_given, table_told}

@@ -14,8 +14,7 @@ use Rattle.route_lines.specs.declared.reply.Reply.{Reply}
 use Rattle.route_lines.specs.declared.reply.Reply.TheVariants as R
 use Rattle.route_laws.specs.Flats.{Piece, flat_of}
 use Rattle.route_laws.specs.Tables.{Route, IsTable, hop_at}
-use Rattle.route_laws.proofs.FlatSearch.{search_is_flat}
-use Rattle.route_laws.proofs.Flats.{same_flat}
+use Rattle.route_laws.proofs.Flats.{search_is_flat, same_flat}
 use Rattle.route_laws.proofs.NetworksAt.{of_network_at}
 use Rattle.route_feed.specs.Replies.{printed}
 use Rattle.route_feed.specs.Laws.{flat_bytes}

@@ -5,7 +5,7 @@ use Rattle.route_lines.specs.Bytes.{lines}
 use Rattle.route_laws.specs.LeastTables.{IsLeast}
 use Rattle.route_laws.specs.Networks.{routes_of}
 use Rattle.route_laws.specs.Tables.{Route, hop_at}
-use Rattle.route_laws.proofs.Families.{least_too}
+use Rattle.route_laws.proofs.Insides.{least_too}
 use Rattle.route_program.specs.declared.counted.Counted.{Counted}
 use Rattle.route_program.specs.declared.error.RunError.{RunError}
 use Rattle.route_program.specs.declared.error.RunError.TheVariants as Why

@@ -17,10 +17,9 @@ use Rattle.route_laws.specs.Networks.{routes_of}
 use Rattle.route_laws.specs.Operations.{IsHitless, Operation, after_all}
 use Rattle.route_laws.specs.Runs.{Event, Have, Told, Sync, Installer, MayAllCome, after_events, given, gives, haves, start, told}
 use Rattle.route_laws.specs.Tables.{Route, IsTable, hop_at, route_of}
-use Rattle.route_laws.proofs.Between.{after-append}
-use Rattle.route_laws.proofs.Families.{least_too}
+use Rattle.route_laws.proofs.Between.{after-append, hitless_from}
+use Rattle.route_laws.proofs.Insides.{least_too}
 use Rattle.route_laws.proofs.Runs.{Holds, holds, gives_hitless, given_reaches, keeps_hops, sync_is_least, sync_stays, told_is_fewest, no_haves}
-use Rattle.route_laws.proofs.Turning.{hitless_from}
 use Rattle.route_installer.specs.Installing.{Installing, Noted, after_note, after_notes, begin, committing, event_of, events, route_to}
 use Rattle.route_installer.specs.Laws.{AreFirst, HasSync, InstalledAgrees, InstalledAtAllTimes, InstalledIsHitless, InstalledTurnsOnce, OperationsReach, RepliesAreFewest, SyncsAreLeast, SyncsStay, TurnsOnce, installed_by, operations_at, replies_of, table_by}
 use Rattle.route_feed.specs.Streams.{Change, closes, committed, ends_well, painted_hop, is_done}

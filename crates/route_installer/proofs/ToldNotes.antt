@@ -1,7 +1,7 @@
 -- The hops that notes tell are those that their reply lines commit.
 use Rattle.std.proofs.Common.{◌≡◌, ℕ, Bool, true, false, cond, List, [], ◌∷◌, ◌++◌, map, Option, None, refl, sym, ap, ◌∙◌, append_assoc, option_to_list}
 use Rattle.std.specs.List.{cons_option}
-use Rattle.route_laws.proofs.Fewest.{number_from_hop}
+use Rattle.route_laws.proofs.Insides.{number_from_hop}
 use Rattle.ipnet_addr.specs.Addresses.{Address}
 use Rattle.ipnet_blocks.specs.Blocks.{has_address}
 use Rattle.route_lines.specs.declared.fib_input.FibInput.{FibInput}

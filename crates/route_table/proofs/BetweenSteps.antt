@@ -23,11 +23,10 @@ use Rattle.route_laws.specs.LeastTables.{routes_for}
 use Rattle.route_laws.specs.Operations.{Remove, is_held, missing, removes, same_route, surplus}
 use Rattle.route_laws.specs.Tables.{Route, IsTable, is_stored, item_of, match_of, route_of, with_route}
 use Rattle.route_laws.proofs.Between.{route_from_test, route_itself}
-use Rattle.route_laws.proofs.ChoiceChanges.{match_of_own}
+use Rattle.route_laws.proofs.Networks.{match_of_own}
 use Rattle.route_laws.proofs.Insides.{Sooner, rising}
-use Rattle.route_laws.proofs.Matches.{bools_same, match_meets}
+use Rattle.route_laws.proofs.Matches.{bools_same, match_meets, put_last}
 use Rattle.route_laws.proofs.NetworksAt.{of_network_at}
-use Rattle.route_laws.proofs.Ordered.{put_last}
 use Rattle.route_table.specs.InnerBetween.{AreComing}
 use Rattle.route_table.proofs.FlatRuns.{table_left, table_right}
 

@@ -16,9 +16,8 @@ use Rattle.trie_core.specs.Bits.{number_from}
 use Rattle.trie_core.proofs.Numbers.{number_bound, number-digits, one_power}
 use Rattle.route_laws.specs.Fewest.{inherited, hop_under, GivesInside}
 use Rattle.route_laws.specs.Tables.{Route, IsTable, covering, longer, longest, match_of}
-use Rattle.route_laws.proofs.Families.{in_family}
-use Rattle.route_laws.proofs.Insides.{Sooner, sound, rising}
-use Rattle.route_laws.proofs.Ordered.{before_apart}
+use Rattle.route_laws.proofs.Insides.{in_family, Sooner, sound, rising}
+use Rattle.route_laws.proofs.Matches.{before_apart}
 use Rattle.route_table.specs.InnerLeast.{address_at, entry_of, entries_of, hops_of}
 use Rattle.route_table.proofs.FlatPieces.{bits_at}
 use Rattle.route_table.proofs.Strings.{inside_is, same_string}

@@ -13,7 +13,7 @@ use Rattle.route_choices.specs.Choices.{Choice}
 use Rattle.route_choices.proofs.Kept.{In-map, map_In}
 use Rattle.route_table.specs.InnerFamilyTables.{block_at, route_at, stored_at, stored_in, IsStored, IsFamilyTable}
 use Rattle.route_laws.specs.Networks.{Stored, IsStoredTable, routes_of}
-use Rattle.route_laws.proofs.Ordered.{Earlier}
+use Rattle.route_laws.proofs.Matches.{Earlier}
 use Rattle.route_table.proofs.Strings.{string_of_block, block_at_is_block, block_of_string, string_or_not}
 use Rattle.std.specs.FinMap.Entries.{below_all, find-where_key, is_sorted-where_key, where_key}
 use Rattle.std.proofs.lemmas.Option.{same_Some}

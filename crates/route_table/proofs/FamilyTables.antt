@@ -18,7 +18,7 @@ use Rattle.route_laws.specs.Onwards.{count_of}
 use Rattle.route_laws.specs.Tables.{Route, IsTable, covering, longest, match_of, routes_inside, Governed, match_number}
 use Rattle.route_table.specs.Tries.{map_of}
 use Rattle.route_laws.proofs.Networks.{routes_are_table, good, rising, stored_table_of, at_cases, at_member, at_none}
-use Rattle.route_laws.proofs.Ordered.{Earlier}
+use Rattle.route_laws.proofs.Matches.{Earlier}
 use Rattle.ipnet_blocks.specs.Maximal.{IsMaximal, IsMaximalBlock}
 use Rattle.ipnet_blocks.proofs.BlockLaws.{has_first, numbers_from_inside, same_sets}
 use Rattle.ipnet_blocks.proofs.Parents.{decide_inside}

@@ -21,10 +21,9 @@ use Rattle.route_laws.specs.Networks.{Stored, best_route, routes_of}
 use Rattle.route_laws.specs.Operations.{Remove, between, installs, is_held, missing, removes, surplus}
 use Rattle.route_laws.specs.Painted.{AreChanges, painted_all}
 use Rattle.route_laws.specs.Tables.{Route, IsTable, hop_at, is_stored}
-use Rattle.route_laws.proofs.Families.{both_have, part_gives}
-use Rattle.route_laws.proofs.Insides.{rising, sound}
+use Rattle.route_laws.proofs.Insides.{both_have, part_gives, rising, sound}
 use Rattle.route_laws.proofs.Networks.{routes_are_table}
-use Rattle.route_laws.proofs.Painted.{Changes, changes_from}
+use Rattle.route_laws.proofs.Overwritten.{Changes, changes_from}
 use Rattle.route_table.specs.Given.{AreFamilies}
 use Rattle.route_table.specs.InnerLeast.{entries_of, entry_of}
 use Rattle.route_table.specs.InnerFamilyTables.{IsFamilyTable, block_at}

@@ -23,7 +23,7 @@ use Rattle.route_choices.proofs.Kept.{In-map, map_In, Rising-kept, In-from_filte
 use Rattle.route_laws.specs.Flats.{Piece, IsFlat}
 use Rattle.route_table.specs.InnerLeast.{ArePieces, IsPlanned, address_at, pieces_of}
 use Rattle.route_laws.proofs.Flats.{Sooner, not_inside, piece_at, piece_is_block, tells}
-use Rattle.route_laws.proofs.Ordered.{before_apart}
+use Rattle.route_laws.proofs.Matches.{before_apart}
 use Rattle.route_table.proofs.Openings.{Rising-map}
 
 -- whether a piece begins a string, and the first such piece

@@ -24,13 +24,10 @@ use Rattle.ipnet.specs.declared.subnets.IpSubnets.{IpSubnets}
 use Rattle.route_choices.proofs.Kept.{In-filter, In-from_filter, In-map, map_In}
 use Rattle.route_laws.specs.Flats.{Piece, IsFlat, blocks_of, flat_of}
 use Rattle.route_laws.specs.Tables.{Route, IsTable, hop_at}
-use Rattle.route_laws.proofs.FlatBounds.{flat_bound}
-use Rattle.route_laws.proofs.Flats.{Sooner, flat_is_shortest, flat_moved, same_flat, tells, maximal_same as block_same}
-use Rattle.route_laws.proofs.FlatSearch.{search_is_flat}
+use Rattle.route_laws.proofs.Flats.{flat_bound, Sooner, flat_is_shortest, flat_moved, same_flat, tells, maximal_same as block_same, search_is_flat, own_is_maximal}
 use Rattle.route_laws.proofs.Insides.{rising, sound, table_of}
-use Rattle.route_laws.proofs.Ordered.{Rising-map, no_members}
-use Rattle.route_laws.proofs.Own.{own_is_maximal}
-use Rattle.route_laws.proofs.Updates.{Sooner as RouteSooner}
+use Rattle.route_laws.proofs.Matches.{Rising-map, no_members}
+use Rattle.route_laws.proofs.Alterations.{Sooner as RouteSooner}
 use Rattle.route_table.specs.Given.{AreFamilies, IsFlatOf}
 use Rattle.route_table.specs.InnerFlattening.{piece_of, pieces_of, pieces_left, hops_in, hops_of, AreBoth}
 use Rattle.route_table.specs.InnerRouteSpans.{Run}

@@ -20,7 +20,7 @@ use Rattle.route_choices.proofs.Kept.{In-from_filter, In-filter, Rising-kept, al
 use Rattle.route_laws.specs.Tables.{Route, IsTable, Governed, routes_inside}
 use Rattle.route_table.specs.InnerGoverning.{GovernsNone, gap_before, gaps, blocks_of_spans}
 use Rattle.route_laws.proofs.Matches.{block_in, inside_from_test, test_from_inside}
-use Rattle.route_laws.proofs.Updates.{Sooner}
+use Rattle.route_laws.proofs.Alterations.{Sooner}
 
 abbrev FirstsRise : Route → Route → Type 0
 FirstsRise r s = first (Route.block r) ≤ first (Route.block s)

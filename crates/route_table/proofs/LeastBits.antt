@@ -24,12 +24,10 @@ use Rattle.route_table.specs.InnerLeast.{ArePieces, AreLeast, entry_of, entries_
 use Rattle.route_table.specs.InnerFamilyTables.{block_at}
 use Rattle.route_laws.specs.LeastTables.{IsLeast, routes_for}
 use Rattle.route_laws.specs.Tables.{Route, IsTable, route_of}
-use Rattle.route_laws.proofs.Families.{least_of_families}
-use Rattle.route_laws.proofs.Fewest.{number_from_hop, fits_hop}
+use Rattle.route_laws.proofs.Insides.{least_of_families, number_from_hop, fits_hop, table_of}
 use Rattle.route_table.proofs.BetweenSteps.{is_truncated}
 use Rattle.route_table.proofs.FamilyBits.{AllOf, all_inside, family_gives, gives_bits, lengths, rising_entries}
 use Rattle.route_laws.proofs.NetworksAt.{of_network_at}
-use Rattle.route_laws.proofs.Insides.{table_of}
 use Rattle.route_table.proofs.Strings.{string_of_block, block_at_is_block}
 use Rattle.route_table.proofs.Walked.{network_of_key}
 

@@ -16,9 +16,8 @@ use Rattle.route_choices.proofs.Kept.{In-filter, In-from_filter, In-map, filter_
 use Rattle.route_laws.specs.Operations.{Operation, Remove, is_held, removes, same_route}
 use Rattle.route_laws.specs.Tables.{Route, IsTable}
 use Rattle.route_laws.proofs.Between.{route_itself}
-use Rattle.route_laws.proofs.Fewest.{number_from_hop}
-use Rattle.route_laws.proofs.Insides.{Sound, sound, table_of}
-use Rattle.route_laws.proofs.Ordered.{not_cases}
+use Rattle.route_laws.proofs.Insides.{number_from_hop, Sound, sound, table_of}
+use Rattle.route_laws.proofs.Matches.{not_cases}
 use Rattle.route_table.specs.InnerLeast.{entry_of, entries_of}
 use Rattle.route_table.specs.InnerFamilyTables.{block_at}
 use Rattle.route_table.specs.InnerUpdates.{installed_route, routes_in}

@@ -14,7 +14,7 @@ use Rattle.route_laws.specs.Networks.{Stored, routes_of}
 use Rattle.route_laws.specs.Painted.{AreChanges}
 use Rattle.route_laws.specs.Tables.{IsTable, Route}
 use Rattle.route_laws.proofs.Insides.{Sooner}
-use Rattle.route_laws.proofs.Ordered.{no_members}
+use Rattle.route_laws.proofs.Matches.{no_members}
 use Rattle.route_table.specs.InnerFamilyTables.{IsFamilyTable}
 use Rattle.route_table.specs.InnerLeast.{entries_of}
 use Rattle.route_table.specs.InnerUpdates.{AreEditsOf, AreWithin}

@@ -9,10 +9,8 @@ use Rattle.route_laws.specs.Fewest.{hop_under}
 use Rattle.route_laws.specs.Overwritten.{overwritten}
 use Rattle.route_laws.specs.Painted.{hop_over, painted_all}
 use Rattle.route_laws.specs.Tables.{Route, IsTable, hop_at}
-use Rattle.route_laws.proofs.Families.{hop_is, in_family, part_hops}
-use Rattle.route_laws.proofs.Insides.{table_of}
-use Rattle.route_laws.proofs.Overwritten.{over_is_table, over_under}
-use Rattle.route_laws.proofs.Painted.{Changes, painted_all_hops}
+use Rattle.route_laws.proofs.Insides.{hop_is, in_family, part_hops, table_of}
+use Rattle.route_laws.proofs.Overwritten.{over_is_table, over_under, Changes, painted_all_hops}
 use Rattle.route_table.specs.InnerLeast.{address_at, hops_of}
 use Rattle.route_table.specs.InnerUpdates.{overwritten_all}
 use Rattle.route_table.proofs.FamilyBits.{hop_bits}

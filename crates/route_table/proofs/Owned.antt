@@ -18,9 +18,8 @@ use Rattle.route_choices.specs.Hops.{number_of}
 use Rattle.route_laws.specs.Flats.{blocks_of, flat_of}
 use Rattle.route_table.specs.InnerOwning.{Owns, IsOwned, GrowsBy}
 use Rattle.route_laws.specs.Tables.{Route, IsTable, Governed, match_of, match_number, hop_at}
-use Rattle.route_laws.proofs.FlatSearch.{search_is_flat}
+use Rattle.route_laws.proofs.Flats.{search_is_flat, own_is_maximal}
 use Rattle.route_laws.proofs.Matches.{block_in, match_meets, match_from, governed_match}
-use Rattle.route_laws.proofs.Own.{own_is_maximal}
 
 module _ (M : List Route) (table : IsTable M) where
   -- whether a block governs an address

@@ -15,9 +15,8 @@ use Rattle.route_laws.specs.Tables.{Route, IsTable, IsMatch, match_of, match_num
 use Rattle.route_table.specs.InnerRunning.{IsApartOrInside, IsOpen, IsComing, ArePlaced, route_span_of, topmost}
 use Rattle.route_table.proofs.Governings.{first_to_last}
 use Rattle.route_table.proofs.Openings.{Rising-map}
-use Rattle.route_laws.proofs.Matches.{block_in, match_from, match_meets, same_length}
-use Rattle.route_laws.proofs.Ordered.{shorter_first}
-use Rattle.route_laws.proofs.Updates.{Sooner}
+use Rattle.route_laws.proofs.Matches.{block_in, match_from, match_meets, same_length, shorter_first}
+use Rattle.route_laws.proofs.Alterations.{Sooner}
 
 abbrev Has : ℕ → Route → Type 0
 Has x r = (first (Route.block r) ≤ x) × (x ≤ last (Route.block r))

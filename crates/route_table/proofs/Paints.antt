@@ -13,10 +13,10 @@ use Rattle.route_laws.specs.Networks.{Stored, best_route, networks_outside, rout
 use Rattle.route_laws.specs.Overwritten.{overwritten, without_inside}
 use Rattle.route_laws.specs.Painted.{painted}
 use Rattle.route_laws.specs.Tables.{Route, IsTable, item_of, match_number, match_of}
-use Rattle.route_laws.proofs.Changes.{same_itself}
-use Rattle.route_laws.proofs.Inherited.{inherited_from_parent}
+use Rattle.route_laws.proofs.Alterations.{same_itself}
+use Rattle.route_laws.proofs.Overwritten.{inherited_from_parent}
 use Rattle.route_laws.proofs.NetworksAt.{of_network_at}
-use Rattle.route_laws.proofs.Ordered.{not_cases}
+use Rattle.route_laws.proofs.Matches.{not_cases}
 
 -- the number at a match, by the item of the match
 pub number_of_none : (m : Option Route) → None ≡ option_map item_of m → match_number m ≡ None

@@ -17,10 +17,8 @@ use Rattle.route_choices.proofs.Kept.{In-filter, In-from_filter, In-map, all_kep
 use Rattle.route_laws.specs.Operations.{Install, Remove, between, installs, is_held, missing, removes, same_route, surplus}
 use Rattle.route_laws.specs.Tables.{Route, IsTable, is_stored}
 use Rattle.route_laws.proofs.Between.{route_from_test}
-use Rattle.route_laws.proofs.Families.{apart, family_tested, order, separate}
-use Rattle.route_laws.proofs.Insides.{few, filter_again, sound, within}
-use Rattle.route_laws.proofs.Matches.{bools_same, test_from_inside}
-use Rattle.route_laws.proofs.Ordered.{not_cases, not_from}
+use Rattle.route_laws.proofs.Insides.{apart, family_tested, order, separate, few, filter_again, sound, within}
+use Rattle.route_laws.proofs.Matches.{bools_same, test_from_inside, not_cases, not_from}
 use Rattle.route_table.specs.Given.{AreFamilies}
 use Rattle.route_table.specs.InnerLeast.{entry_of, entries_of}
 use Rattle.route_table.proofs.FamilyBits.{AllOf}

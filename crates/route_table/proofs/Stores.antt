@@ -15,14 +15,12 @@ use Rattle.route_choices.proofs.Kept.{filter_map_swap, same_kept}
 use Rattle.route_table.specs.InnerFamilyTables.{IsStored, stored_at, stored_in}
 use Rattle.route_laws.specs.Networks.{Stored, IsStoredTable, choices_at, networks_outside, with_choices, with_stored, without_stored, routes_of}
 use Rattle.route_table.proofs.Searches.{at_key}
-use Rattle.route_laws.proofs.Matches.{bools_same}
-use Rattle.route_laws.proofs.Networks.{with_is, put_same}
-use Rattle.route_laws.proofs.Ordered.{put_back, put_itself, put_other}
+use Rattle.route_laws.proofs.Matches.{bools_same, put_back, put_itself, put_other}
+use Rattle.route_laws.proofs.Networks.{with_is, put_same, number_of_choices}
 use Rattle.route_table.proofs.FamilyMap.{get_of, kept_entries, HasStored, has_stored, in_side, is_side, side_is, stored_path}
 use Rattle.route_table.proofs.Strings.{block_at_is_block, inside_is, same_string, string_of_block, string_within}
 use Rattle.route_choices.specs.Hops.{number_of}
 use Rattle.route_laws.specs.Tables.{match_number, match_of}
-use Rattle.route_laws.proofs.ChoiceChanges.{number_of_choices}
 
 -- a map that keeps the keys that pass a test
 module _ (f : Family) (m : BitMap (List Choice)) (ok : IsStored f m) (n : BitMap (List Choice)) (p : List Bool → Bool) (at : (s : List Bool) → get n s ≡ cond (p s) (get m s) None) where

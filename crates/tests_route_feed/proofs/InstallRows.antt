@@ -23,7 +23,7 @@ use Rattle.route_laws.specs.Runs.{MayAllCome, start}
 use Rattle.route_laws.specs.Tables.{Route, IsTable, hop_at}
 use Rattle.route_laws.proofs.Between.{between_reaches}
 use Rattle.route_laws.proofs.Insides.{Sound, table_of}
-use Rattle.route_laws.proofs.Painted.{changes_from, painted_all_is_table}
+use Rattle.route_laws.proofs.Overwritten.{changes_from, painted_all_is_table}
 use Rattle.route_installer.specs.Installing.{Noted, begin, events, update_lines}
 use Rattle.route_installer.specs.Laws.{installed_by, operations_at, replies_of}
 use Rattle.route_feed.specs.Output.{table_after}

@@ -11,9 +11,8 @@ use Rattle.route_laws.specs.Flats.{Piece}
 use Rattle.route_laws.specs.Laws.{one_route}
 use Rattle.route_laws.specs.Networks.{choices_at, routes_of}
 use Rattle.route_laws.specs.Tables.{Route, IsTable, hop_at}
-use Rattle.route_laws.proofs.Fewest.{fewest_of_host}
-use Rattle.route_laws.proofs.Insides.{table_of}
-use Rattle.route_laws.proofs.TableHops.{hops_of_table}
+use Rattle.route_laws.proofs.Insides.{fewest_of_host, table_of}
+use Rattle.route_laws.proofs.FlatTables.{hops_of_table}
 
 -- 10.0.0.0/8
 abbrev ten : Block

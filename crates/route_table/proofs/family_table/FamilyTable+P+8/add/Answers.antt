@@ -4,7 +4,7 @@ use Rattle.route_choices.specs.Choices.{Choice, choices_with, is_one_too_many}
 use Rattle.route_choices.proofs.ChoiceLists.{one_is}
 use Rattle.route_laws.specs.Networks.{routes_of, with_choices}
 use Rattle.route_laws.specs.Tables.{match_of, match_number}
-use Rattle.route_laws.proofs.ChoiceChanges.{number_of_choices}
+use Rattle.route_laws.proofs.Networks.{number_of_choices}
 use Rattle.route_table.proofs.Searches.{none_there, some_there}
 use Rattle.route_table.proofs.family_table.FamilyTable+P+8.add.Goals as goal
 

@@ -2,7 +2,7 @@ use Rattle.std.proofs.Common.{sym, ap, ◌∙◌}
 use Rattle.ipnet.specs.IpNets.{block}
 use Rattle.route_laws.specs.Networks.{routes_of}
 use Rattle.route_laws.specs.Tables.{match_number, match_of}
-use Rattle.route_laws.proofs.Inherited.{inherited_from_none}
+use Rattle.route_laws.proofs.Overwritten.{inherited_from_none}
 use Rattle.route_table.proofs.Paints.{inherited_through, number_of_item, number_of_none}
 use Rattle.route_table.proofs.paint.HopTable.inherited.Goals as goal
 

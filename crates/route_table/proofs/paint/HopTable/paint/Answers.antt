@@ -7,8 +7,7 @@ use Rattle.route_laws.specs.Networks.{routes_of}
 use Rattle.route_laws.specs.Overwritten.{overwritten, without_inside}
 use Rattle.route_laws.specs.Tables.{hop_at, route_of}
 use Rattle.route_laws.proofs.Networks.{routes_are_table}
-use Rattle.route_laws.proofs.Overwritten.{routes_overwritten}
-use Rattle.route_laws.proofs.Painted.{painted_hops}
+use Rattle.route_laws.proofs.Overwritten.{routes_overwritten, painted_hops}
 use Rattle.route_table.proofs.Paints.{differ_from_test, painted_bare, painted_over, routes_outside, same_test}
 use Rattle.route_table.proofs.paint.HopTable.paint.Goals as goal
 

@@ -1,7 +1,7 @@
 use Rattle.std.proofs.Common.{rules, ◌≡◌, ◌-◌, ◌<◌, sym, refl, ap, ◌∙◌, arith, subst}
 use Rattle.route_table.specs.declared.runs.Runs.{Runs}
 use Rattle.route_table.specs.InnerRouteSpans.{RouteSpan}
-use Rattle.route_laws.proofs.Changes.{same_from_test}
+use Rattle.route_laws.proofs.Alterations.{same_from_test}
 use Rattle.route_table.specs.InnerRunning.{StepsRun, joined, step_of}
 use Rattle.route_table.proofs.Paints.{tests_same}
 use Rattle.route_table.proofs.Shortcuts.{passed_over}

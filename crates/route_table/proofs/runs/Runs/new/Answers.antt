@@ -7,7 +7,7 @@ use Rattle.route_table.specs.InnerRouteSpans.{Run}
 use Rattle.route_table.specs.InnerRunning.{IsAtHand, from_on, over, route_span_of, topmost}
 use Rattle.route_table.proofs.Painted.{greatest, greatest_key, placed_first}
 use Rattle.route_table.proofs.RunSteps.{hops_are, placed_as}
-use Rattle.route_laws.proofs.Updates.{Sooner}
+use Rattle.route_laws.proofs.Alterations.{Sooner}
 use Rattle.route_table.proofs.runs.Runs.new.Goals as goal
 
 pub returns-clause-runs : goal.returns-clause-runs

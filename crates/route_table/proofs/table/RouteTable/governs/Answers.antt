@@ -1,6 +1,6 @@
 use Rattle.ipnet.specs.IpNets.{block}
 use Rattle.route_laws.specs.Networks.{routes_of}
-use Rattle.route_laws.proofs.Bounds.{governed_bound}
+use Rattle.route_laws.proofs.Flats.{governed_bound}
 use Rattle.route_table.proofs.Governings.{governed_in_part, part_is_inside, part_is_table}
 use Rattle.route_table.proofs.table.RouteTable.governs.Goals as goal
 

@@ -1,1 +1,0 @@
-pub use Rattle.route_laws.proofs.Flats.{governed_bound}

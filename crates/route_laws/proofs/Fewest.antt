@@ -1,1 +1,0 @@
-pub use Rattle.route_laws.proofs.Insides.{fewest_of_host, fits_hop, number_from_hop}

@@ -1,1 +1,0 @@
-pub use Rattle.route_laws.proofs.Flats.{own_is_maximal}

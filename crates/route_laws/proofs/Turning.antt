@@ -1,1 +1,0 @@
-pub use Rattle.route_laws.proofs.Between.{hitless_from}
