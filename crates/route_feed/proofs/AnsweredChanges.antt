@@ -83,10 +83,13 @@ same_or_not o p = ⊎_elim
 -- ---- a change of the choices of one block
 
 -- with the same routes of all blocks but n, n governs the same
-governed_from : (M N : List Route) (n : Block) → ((s : Route) → (s.block ≡ n → ⊥) → In s N → In s M) → (x : Address) → Governed M n x → Governed N n x
+governed_from : (M N : List Route) (n : Block) → ((s : Route) → (s.block ≡ n → ⊥) → In s N → In s M)
+    → (x : Address) → Governed M n x → Governed N n x
 governed_from M N n back x g = record {
   inside = g.inside;
-  free = λ u c l h. g.free u (Contains-from_In M u (back u (λ e. l.1 (λ y k. subst (λ (b : Block). HasAddress b y) (sym e) k)) (In-from_Contains N u c))) l h;
+  free = λ u c l h.
+      let member = back u (λ e. l.1 (λ y k. subst (λ (b : Block). HasAddress b y) (sym e) k)) (In-from_Contains N u c) in
+      g.free u (Contains-from_In M u member) l h;
 }
 
 module _ (M : List Stored) (m : IsStoredTable M) (b : Block) (ok : IsBlock b) (cs : List Choice) (are : AreChoices cs) where
@@ -97,13 +100,15 @@ module _ (M : List Stored) (m : IsStoredTable M) (b : Block) (ok : IsBlock b) (c
   after = routes_of (with_choices M b cs)
 
   -- each block of the change has the hop that the block has then
-  lines_are : (bs : List Block) → IsMaximal (Changed before after) bs → change_lines before after ≡ map (change_line (match_number (match_of after b))) bs
+  lines_are : (bs : List Block) → IsMaximal (Changed before after) bs
+      → change_lines before after ≡ map (change_line (match_number (match_of after b))) bs
   unfolding change_lines
   lines_are bs changes =
       let found = maximal_of (changed before after) in
       let hop = match_number (match_of after b) in
+      let one = λ (d : Block) (i : In d found). choices_have_one_hop M m b ok cs are d (Contains-from_In found d i) in
       map_same (λ d. change_line (hop_at after (first_of d)) d) (change_line hop) found
-      (λ d i. ap (λ o. change_line o d) (choices_have_one_hop M m b ok cs are d (Contains-from_In found d i) (first_of d) (has_first d)))
+      (λ d i. ap (λ o. change_line o d) (one d i (first_of d) (has_first d)))
       ∙ ap (map (change_line hop)) (maximal_is_unique (Changed before after) found bs (changed_is_maximal before after) changes)
 
   governed_before : (bs : List Block) → IsMaximal (Governed after b) bs → IsMaximal (Governed before b) bs
@@ -113,13 +118,16 @@ module _ (M : List Stored) (m : IsStoredTable M) (b : Block) (ok : IsBlock b) (c
 
   -- the lines, written
   pub Closes-change : {W : Type 0} (contents : W → Option (List ℕ)) (T : List Stored) → T ≡ with_choices M b cs
-      → (was has : Option ℕ) → was ≡ match_number (match_of before b) → has ≡ match_number (match_of (routes_of T) b) → (old new : Counted W) (result : Result Unit RunError)
-      → (was ≡ has → Closes contents 1 old new result (printed (Close Done ∷ []))) → (was ≢ has → TellsGoverned contents T b has old new result)
+      → (was has : Option ℕ) → was ≡ match_number (match_of before b) → has ≡ match_number (match_of (routes_of T) b)
+      → (old new : Counted W) (result : Result Unit RunError) → (was ≡ has → Closes contents 1 old new result (printed (Close Done ∷ [])))
+      → (was ≢ has → TellsGoverned contents T b has old new result)
       → Closes contents 1 old new result (printed (change_lines before after ++ Close Done ∷ []))
   Closes-change contents T is was has first then old new result same differs =
-      let last : has ≡ match_number (match_of after b) = then ∙ ap (λ (U : List Stored). match_number (match_of (routes_of U) b)) is in
+      let last = then ∙ ap (λ (U : List Stored). match_number (match_of (routes_of U) b)) is in
       ⊎_elim
-      (λ e. rw (lines_are [] (no_blocks (Changed before after) (λ x a c. ((changed_by_choices M m b ok cs are x a).0 c).1 (sym first ∙ e ∙ last)))) (same e))
+      (λ e.
+      let none = no_blocks (Changed before after) (λ x a c. ((changed_by_choices M m b ok cs are x a).0 c).1 (sym first ∙ e ∙ last)) in
+      rw (lines_are [] none) (same e))
       (λ d.
       let (bs, governed, written) = differs d in
       let blocks = governed_before bs (subst (λ (U : List Stored). IsMaximal (Governed (routes_of U) b) bs) is governed) in

@@ -16,7 +16,7 @@ use Rattle.route_feed.specs.Steps as steps
 use Rattle.route_feed.specs.Streams.{Change, change_of, closes, is_done, ends_well, committed, closings, painted_over, painted_hop, replies_in}
 use Rattle.route_feed.proofs.Carried.{painted-append, either}
 use Rattle.route_feed.proofs.Replies.{form_step, gain}
-use Rattle.route_feed.proofs.PrintedLines.{IsTold, Keeps, read_again, reread, HasNoEnd, IsPrinted, printed_if_read}
+use Rattle.route_feed.proofs.PrintedLines.{IsTold, Keeps, read_again, reread, IsPrinted, printed_if_read}
 use Rattle.route_lines.specs.Bytes.{lines, rest, onto_first}
 use Rattle.route_lines.specs.Spelled.{command_of, reply_of}
 use Rattle.route_lines.specs.Texts.{reply_text}
@@ -44,7 +44,8 @@ waits_more : (l : Reply) (p : List Reply) → closes l ≡ None → Waits p → 
 waits_more l p o w = record { closings = rw o w.closings; committed = rw w.done w.committed; done = rw o w.done }
 
 -- a beginning of a reply and what follows: it waits, or has the whole reply
-split_at_closing : (p q body : List Reply) (closing : Closing) (tail : List Reply) → All IsOpen body → p ++ q ≡ body ++ Close closing ∷ tail
+split_at_closing : (p q body : List Reply) (closing : Closing) (tail : List Reply) → All IsOpen body
+    → p ++ q ≡ body ++ Close closing ∷ tail
     → Waits p ⊎ ((later : List Reply) × (p ≡ body ++ Close closing ∷ later) × (later ++ q ≡ tail))
 split_at_closing [] q body closing tail o e = inl (record { closings = refl; committed = refl; done = refl })
 split_at_closing (x ∷ p) q [] closing tail o e =
@@ -71,7 +72,11 @@ one_more true (Some c) cs ds = refl
 one_more false o cs ds = refl
 
 commits : (body : List Reply) (closing : Closing) (p : List Reply) → All IsOpen body → Commits body closing p
-commits [] closing p o = record { committed = either (ends_well p) (committed p) ∙ ap (λ cs. cs ++ committed p) (sym (either (is_done closing) [])); closings = refl; done = refl }
+commits [] closing p o = record {
+  committed = either (ends_well p) (committed p) ∙ ap (λ cs. cs ++ committed p) (sym (either (is_done closing) []));
+  closings = refl;
+  done = refl;
+}
 commits (l ∷ body) closing p o =
     let is_open = All-head IsOpen l body o in
     let h = commits body closing p (All-tail IsOpen l body o) in
@@ -119,8 +124,9 @@ all_closed M (c ∷ cs) r m h =
     let t = steps.step M c (get_or r 0 false) in
     let rs = refusals_after M c r in
     let form = form_step M m c (get_or r 0 false) (All-head IsInRange c cs h) in
+    let open_lines = All-weaker (IsTold (length M < 2 ^ 64)) IsOpen (λ l k. k.1) t.body form.told in
     ap closings (append_assoc t.body (Close t.closing ∷ []) (replies t.next cs rs))
-    ∙ (commits t.body t.closing (replies t.next cs rs) (All-weaker (IsTold (length M < 2 ^ 64)) IsOpen (λ l k. k.1) t.body form.told)).closings
+    ∙ (commits t.body t.closing (replies t.next cs rs) open_lines).closings
     ∙ ap suc (all_closed t.next cs rs form.table (All-tail IsInRange c cs h))
 
 -- ---- a beginning's lines
@@ -138,16 +144,19 @@ first_lines (b ∷ front) back = let (later, e) = first_lines front back in firs
 
 -- ---- the reply lines of an output
 
-pub replies_printed : (few : Type 0) (M : List Stored) (commands : List (Option Command)) (r : List Bool) → IsStoredTable M → All IsInRange commands
+pub replies_printed : (few : Type 0) (M : List Stored) (commands : List (Option Command)) (r : List Bool)
+    → IsStoredTable M → All IsInRange commands
     → (few → length M + length commands < 2 ^ 64) → All (IsPrinted few) (replies M commands r)
 replies_printed few M [] r m h small = All-nil (IsPrinted few)
 replies_printed few M (c ∷ cs) r m h small =
     let t = steps.step M c (get_or r 0 false) in
     let form = form_step M m c (get_or r 0 false) (All-head IsInRange c cs h) in
-    let body = All-weaker (IsTold (length M < 2 ^ 64)) (IsPrinted few) (λ l k. record { clean = k.0.clean; kept = k.0.kept; spelled = λ f. k.0.spelled (omega (arith, small f)) }) t.body form.told in
+    let body = All-weaker (IsTold (length M < 2 ^ 64)) (IsPrinted few) (λ l k.
+    record { clean = k.0.clean; kept = k.0.kept; spelled = λ f. k.0.spelled (omega (arith, small f)) }) t.body form.told in
     All-append (IsPrinted few) (steps.answer_lines t) (replies t.next cs (refusals_after M c r))
     (All-push (IsPrinted few) t.body (Close t.closing) body (printed_if_read few (Close t.closing) refl))
-    (replies_printed few t.next cs (refusals_after M c r) form.table (All-tail IsInRange c cs h) (λ f. omega (arith, small f, form.grown)))
+    (replies_printed few t.next cs (refusals_after M c r) form.table (All-tail IsInRange c cs h)
+    (λ f. omega (arith, small f, form.grown)))
 
 -- ---- what is read of first lines
 
@@ -179,20 +188,27 @@ AreFirst ls p = (first : List Reply) × (later : List Reply) × (ls ≡ first ++
 module _ (few : Type 0) where
   same_read : (ls : List Reply) → All (IsPrinted few) ls → Same (reread ls) ls
   same_read [] h = Same-nil
-  same_read (l ∷ ls) h = Same-more l (reply_of (reply_text l)) (reread ls) ls (All-head (IsPrinted few) l ls h).kept (same_read ls (All-tail (IsPrinted few) l ls h))
+  same_read (l ∷ ls) h =
+      let later = same_read ls (All-tail (IsPrinted few) l ls h) in
+      Same-more l (reply_of (reply_text l)) (reread ls) ls (All-head (IsPrinted few) l ls h).kept later
 
   -- a beginning of what is read is what is read of a beginning
   first_read : (ls : List Reply) → All (IsPrinted few) ls → (p q : List Reply) → p ++ q ≡ reread ls → AreFirst ls p
   first_read [] h p q e = ([], [], refl, rw (nothing_left p q e) Same-nil)
-  first_read (l ∷ ls) h p q e = go (reply_of (reply_text l)) (All-head (IsPrinted few) l ls h).kept p e (first_read ls (All-tail (IsPrinted few) l ls h))
+  first_read (l ∷ ls) h p q e =
+      go (reply_of (reply_text l)) (All-head (IsPrinted few) l ls h).kept p e (first_read ls (All-tail (IsPrinted few) l ls h))
     where
-      go : (o : Option Reply) → Keeps l o → (p : List Reply) → p ++ q ≡ cons_option o (reread ls) → ((p q : List Reply) → p ++ q ≡ reread ls → AreFirst ls p) → AreFirst (l ∷ ls) p
-      go None k p e more = let (first, later, split, same) = more p q e in (l ∷ first, later, ap (λ ms. l ∷ ms) split, Same-more l None p first k same)
+      go : (o : Option Reply) → Keeps l o → (p : List Reply) → p ++ q ≡ cons_option o (reread ls)
+          → ((p q : List Reply) → p ++ q ≡ reread ls → AreFirst ls p) → AreFirst (l ∷ ls) p
+      go None k p e more =
+          let (first, later, split, same) = more p q e in
+          (l ∷ first, later, ap (λ ms. l ∷ ms) split, Same-more l None p first k same)
       go (Some m) k [] e more = ([], l ∷ ls, refl, Same-nil)
       go (Some m) k (z ∷ p) e more =
           let is : m ≡ z = cc in
           let (first, later, split, same) = more p q (cc) in
-          (l ∷ first, later, ap (λ ms. l ∷ ms) split, subst (λ n. Same (n ∷ p) (l ∷ first)) is (Same-more l (Some m) p first k same))
+          let longer = Same-more l (Some m) p first k same in
+          (l ∷ first, later, ap (λ ms. l ∷ ms) split, subst (λ n. Same (n ∷ p) (l ∷ first)) is longer)
 
 lines_in_range : (pieces : List (List ℕ)) → All IsInRange (map command_of pieces)
 lines_in_range pieces = All-map IsInRange command_of pieces (λ k d _. piece_in_range (slice_index_or pieces k d))
@@ -205,7 +221,8 @@ abbrev pub commands_of : List ℕ → List (Option Command)
 commands_of bytes = whole_commands bytes ++ at_end (rest bytes)
 
 pub commands_are_in_range : CommandsAreInRange
-commands_are_in_range bytes = All-append IsInRange (whole_commands bytes) (at_end (rest bytes)) (lines_in_range (lines bytes)) (end_in_range (rest bytes))
+commands_are_in_range bytes =
+    All-append IsInRange (whole_commands bytes) (at_end (rest bytes)) (lines_in_range (lines bytes)) (end_in_range (rest bytes))
 
 module _ (commands : List (Option Command)) (refusals : List Bool) (range : All IsInRange commands) where
   pub output_printed : All (IsPrinted (length commands < 2 ^ 64)) (replies [] commands refusals)
@@ -213,23 +230,29 @@ module _ (commands : List (Option Command)) (refusals : List Bool) (range : All 
 
   -- what is read of the output
   output_read : replies_in (printed (replies [] commands refusals)) ≡ reread (replies [] commands refusals)
-  output_read = read_again (replies [] commands refusals) (All-weaker (IsPrinted (length commands < 2 ^ 64)) (λ l. HasNoEnd (reply_text l)) (λ l p. p.clean) (replies [] commands refusals) output_printed)
+  output_read = read_again (length commands < 2 ^ 64) (replies [] commands refusals) output_printed
 
   commands_answered : closings (replies_in (printed (replies [] commands refusals))) ≡ length commands
-  commands_answered = ap closings output_read ∙ (same_read (length commands < 2 ^ 64) (replies [] commands refusals) output_printed).closings ∙ all_closed [] commands refusals no_networks range
+  commands_answered =
+      ap closings output_read
+      ∙ (same_read (length commands < 2 ^ 64) (replies [] commands refusals) output_printed).closings
+      ∙ all_closed [] commands refusals no_networks range
 
 -- the first of the reply lines in an output are read of first lines
-first_again : (bytes : List ℕ) (refusals : List Bool) (p q : List Reply) → p ++ q ≡ replies_in (output bytes refusals) → AreFirst (replies [] (commands_of bytes) refusals) p
+first_again : (bytes : List ℕ) (refusals : List Bool) (p q : List Reply) → p ++ q ≡ replies_in (output bytes refusals)
+    → AreFirst (replies [] (commands_of bytes) refusals) p
 first_again bytes refusals p q e =
     let commands = commands_of bytes in
     let range = commands_are_in_range bytes in
-    first_read (length commands < 2 ^ 64) (replies [] commands refusals) (output_printed commands refusals range) p q (e ∙ output_read commands refusals range)
+    let printed = output_printed commands refusals range in
+    first_read (length commands < 2 ^ 64) (replies [] commands refusals) printed p q (e ∙ output_read commands refusals range)
 
 pub followed : (bytes : List ℕ) (refusals : List Bool) (p q : List Reply) → p ++ q ≡ replies_in (output bytes refusals)
     → (x : Address) → IsAddress x → painted_hop (committed p) x ≡ hop_at (routes_of (table_after [] (take (closings p) (commands_of bytes)) refusals)) x
 followed bytes refusals p q e x a =
     let (first, later, split, same) = first_again bytes refusals p q e in
-    rw (same.committed, same.closings) (lines_agree (commands_of bytes) refusals first later (commands_are_in_range bytes) split x a)
+    let range = commands_are_in_range bytes in
+    rw (same.committed, same.closings) (lines_agree (commands_of bytes) refusals first later range split x a)
 
 -- the replies in a beginning are the first of those in the output
 pub first_replies : (bytes front back : List ℕ) (refusals : List Bool) → output bytes refusals ≡ front ++ back

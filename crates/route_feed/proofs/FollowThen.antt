@@ -64,7 +64,8 @@ over_reply s (Some closing) ch more x f =
     ap (λ c. painted_over (hop_at (routes_of s.table) x) (cond (is_done closing) s.pending [] ++ cond (ends_well more) (option_to_list c ++ committed more) (committed more)) x) (f refl)
     ∙ over_closing (is_done closing) (hop_at (routes_of s.table) x) s.pending (committed more) (ends_well more) x
 
-line_taken : (s t : State) (l : Reply) → TakesLine s t l → (more : List Reply) (x : Address) → IsAddress x → hop_once s (l ∷ more) x ≡ hop_once t more x
+line_taken : (s t : State) (l : Reply) → TakesLine s t l → (more : List Reply) (x : Address) → IsAddress x
+    → hop_once s (l ∷ more) x ≡ hop_once t more x
 line_taken s t l k more x a =
     over_reply s (closes l) (change_of l) more x (closes_without_change l)
     ∙ ap (λ h. painted_over h (cond (ends_well more) (pending_after s.pending (closes l) (change_of l)) [] ++ committed more) x) (sym (k.hops x a))
@@ -105,9 +106,11 @@ Taken a ps (Err Why.Write) b = ⊥
 module _ (a b : State) (p : List ℕ) (ps : List (List ℕ)) where
   first_failed : (r : Result Unit RunError) → IsErr r → FollowsLine a (line_of p) r b → Taken a (p ∷ ps) r b
   first_failed (Ok done) err f = absurd (cc)
-  first_failed (Err Why.Line) err f = λ all. true≢false (sym (All-head IsOne p ps all) ∙ ap is_some (sym (piece_spells of_replies p) ∙ f.0))
+  first_failed (Err Why.Line) err f = λ all.
+      true≢false (sym (All-head IsOne p ps all) ∙ ap is_some (sym (piece_spells of_replies p) ∙ f.0))
   first_failed (Err Why.Memory) err f =
-      record { before = []; piece = p; after = ps; reply = f.0; split = refl; replies = All-nil IsOne; is_reply = sym (piece_spells of_replies p) ∙ f.1; wants = f.2 }
+      let is = sym (piece_spells of_replies p) ∙ f.1 in
+      record { before = []; piece = p; after = ps; reply = f.0; split = refl; replies = All-nil IsOne; is_reply = is; wants = f.2 }
   first_failed (Err Why.Read) err f = f
   first_failed (Err Why.Write) err f = f
 
@@ -136,7 +139,8 @@ module _ {W : Type 0} where
   Takes a line old result b new = FollowsLine a line result b × (new ≡ old)
 
   -- nothing is written meanwhile
-  all_taken : (a b : State) (ps : List (List ℕ)) (old new : Counted W) (r : Result Unit RunError) → TakesAll Takes a (map line_of ps) old r b new → Taken a ps r b × (new ≡ old)
+  all_taken : (a b : State) (ps : List (List ℕ)) (old new : Counted W) (r : Result Unit RunError)
+      → TakesAll Takes a (map line_of ps) old r b new → Taken a ps r b × (new ≡ old)
   all_taken a b [] old new r t = (rw (t.0, t.1) (record { same = λ more x h. refl; replies = All-nil IsOne }), t.2)
   all_taken a b (p ∷ ps) old new r t = ⊎_elim
       (λ q.
@@ -152,40 +156,58 @@ new_state = record { table = []; pending = []; failed = false }
 
 module _ {R W : Type 0} (remaining : R → Option (List ℕ)) (contents : W → Option (List ℕ)) (from to : Counted R) (old new : Counted W) (b : State) where
   -- that did not reach the end
-  pub stopped : (e : RunError) → Runs Takes remaining new_state from old (Err e) b to new → Reaches remaining contents from to old new (Err e)
+  pub stopped : (e : RunError) → Runs Takes remaining new_state from old (Err e) b to new
+      → Reaches remaining contents from to old new (Err e)
   stopped e x = ⊎_elim
       (λ p.
       let t = all_taken new_state b (lines x.bytes) old new (Ok tt) p.0 in
-      subst (λ k. Reaches remaining contents from to old new (Err k)) (sym p.1) ((λ k. cc), (record { bytes = x.bytes; read = x.read; holds = t.0.replies }, p.2, t.1)))
+      subst (λ k. Reaches remaining contents from to old new (Err k)) (sym p.1)
+      ((λ k. cc), (record { bytes = x.bytes; read = x.read; holds = t.0.replies }, p.2, t.1)))
       (λ p. let t = all_taken new_state b (lines x.bytes) old new (Err e) p.0 in go e t.0 t.1 p.1)
       x.ends
     where
-      go : (k : RunError) → Taken new_state (lines x.bytes) (Err k) b → new ≡ old → ReadWell from to → Reaches remaining contents from to old new (Err k)
+      go : (k : RunError) → Taken new_state (lines x.bytes) (Err k) b → new ≡ old → ReadWell from to
+          → Reaches remaining contents from to old new (Err k)
       go Why.Memory w same well =
-          let want : MeetsWant (lines x.bytes) = record { before = w.before; piece = w.piece; after = w.after; reply = w.reply; split = w.split; replies = w.replies; is_reply = w.is_reply; wants = w.wants } in
+          let want : MeetsWant (lines x.bytes) = record {
+            before = w.before;
+            piece = w.piece;
+            after = w.after;
+            reply = w.reply;
+            split = w.split;
+            replies = w.replies;
+            is_reply = w.is_reply;
+            wants = w.wants;
+          } in
           ((λ k. cc), (inr (record { bytes = x.bytes; read = x.read; holds = want }, well), same))
       go Why.Line none same well = ((λ k. cc), ((record { bytes = x.bytes; read = x.read; holds = none }, well), same))
       go Why.Read t same well = absurd t
       go Why.Write t same well = absurd t
 
   -- that did: the hops are those that the committed changes paint
-  pub reached : (left : Rest) → Runs Takes remaining new_state from old (Ok left) b to new → Reaches remaining contents from to old new (Ok b)
+  pub reached : (left : Rest) → Runs Takes remaining new_state from old (Ok left) b to new
+      → Reaches remaining contents from to old new (Ok b)
   reached left x =
       let (steps, same) = all_taken new_state b (lines x.bytes) old new (Ok tt) x.ends.0 in
       let told = replies_in x.bytes in
-      let hops = λ (y : Address) (h : IsAddress y). sym (steps.same [] y h) ∙ ap (λ ls. hop_once new_state ls y) (append-nil told) ∙ ap (λ l. painted_over None (l ++ committed told) y) (either {A = List Change} (ends_well told) []) in
+      let hops = λ (y : Address) (h : IsAddress y).
+      sym (steps.same [] y h)
+      ∙ ap (λ ls. hop_once new_state ls y) (append-nil told)
+      ∙ ap (λ l. painted_over None (l ++ committed told) y) (either {A = List Change} (ends_well told) []) in
       (record { bytes = x.bytes; read = x.read; replies = steps.replies; hops = hops; met = x.ends.2 }, same)
 
 module _ {R W : Type 0} (remaining : R → Option (List ℕ)) (contents : W → Option (List ℕ)) (from to : Counted R) (old : Counted W) where
   -- ---- the flat list of the hops that were told
 
   -- all was read, and the list written
-  pub follow_ended : (b : State) (mid new : Counted W) (ps : List Piece) (r : Result Unit RunError) → Reaches remaining contents from to old mid (Ok b)
-      → IsFlat (hop_at (routes_of b.table)) ps → Closes contents 1 mid new r (printed (map flat_line ps ++ Close Done ∷ [])) → FollowEnds remaining contents from to old new r
+  pub follow_ended : (b : State) (mid new : Counted W) (ps : List Piece) (r : Result Unit RunError)
+      → Reaches remaining contents from to old mid (Ok b) → IsFlat (hop_at (routes_of b.table)) ps
+      → Closes contents 1 mid new r (printed (map flat_line ps ++ Close Done ∷ [])) → FollowEnds remaining contents from to old new r
   follow_ended b mid new ps r x flat w =
       let h = painted_hop (committed (replies_in end.bytes)) in
       let list = (same_flat (hop_at (routes_of b.table)) h ps (flat_of h) flat (search_is_flat h)).1 end.hops in
-      go r (subst (λ u. Closes contents 1 u new r (followed end.bytes)) x.1 (subst (λ qs. Closes contents 1 mid new r (printed (map flat_line qs ++ Close Done ∷ []))) list w))
+      let text = ap (λ qs. printed (map flat_line qs ++ Close Done ∷ [])) list in
+      go r (subst (λ u. Closes contents 1 u new r (followed end.bytes)) x.1 (subst (Closes contents 1 mid new r) text w))
     where
       end : Reached remaining contents from to b
       end = x.0
@@ -199,12 +221,15 @@ module _ {R W : Type 0} (remaining : R → Option (List ℕ)) (contents : W → 
   -- where the reader tells its bytes
   pub follow_known : (new : Counted W) (r : Result Unit RunError) → FollowEnds remaining contents from to old new r
       → OnOk r (IfSome (remaining from.device) (λ bytes. AreReplies (lines bytes) × Appends (contents old.device) (contents new.device) (followed bytes)))
-  follow_known new (Ok done) x = Consumes-whole (remaining from.device) (remaining to.device) x.0.bytes _ x.0.read.0 x.1.at_end (x.0.holds.0, x.0.holds.1.appended)
+  follow_known new (Ok done) x =
+      let s = x.0 in
+      Consumes-whole (remaining from.device) (remaining to.device) s.bytes _ s.read.0 x.1.at_end (s.holds.0, s.holds.1.appended)
   follow_known new (Err e) x = tt
 
   -- ---- the lines of a least table
 
-  pub shorten_stopped : (e : RunError) (new : Counted W) → Reaches remaining contents from to old new (Err e) → ShortenEnds remaining contents from to old new (Err e)
+  pub shorten_stopped : (e : RunError) (new : Counted W) → Reaches remaining contents from to old new (Err e)
+      → ShortenEnds remaining contents from to old new (Err e)
   shorten_stopped Why.Memory new x = (⊎_elim (λ e. inl e) (λ w. inr (inl w)) x.1.0, x.1.1)
   shorten_stopped Why.Read new x = x.1
   shorten_stopped Why.Write new x = absurd (x.0 refl)
@@ -216,7 +241,8 @@ module _ {R W : Type 0} (remaining : R → Option (List ℕ)) (contents : W → 
     shorten_wants e is = rw is (inr (inr (record { bytes = x.0.bytes; read = x.0.read; holds = x.0.replies }, x.0.met)), x.1)
 
     -- all was read, and the lines written
-    pub shorten_ended : (new : Counted W) (routes : List Route) (r : Result Unit RunError) → IsLeast (hop_at (routes_of b.table)) routes → Delivers contents mid new r (add_lines routes) → ShortenEnds remaining contents from to old new r
+    pub shorten_ended : (new : Counted W) (routes : List Route) (r : Result Unit RunError) → IsLeast (hop_at (routes_of b.table)) routes
+        → Delivers contents mid new r (add_lines routes) → ShortenEnds remaining contents from to old new r
     shorten_ended new routes r least w = go r (subst (λ u. Delivers contents u new r (add_lines routes)) x.1 w)
       where
         end : Reached remaining contents from to b

@@ -59,21 +59,27 @@ module _ {W : Type 0} (contents : W → Option (List ℕ)) where
     with_own refusals = refusals_of (may_refuse M command) x ++ refusals
 
     -- it takes its value of the refusals, if it may be refused, and leaves the others
-    printed_after : (commands : List (Option Command)) (refusals : List Bool) → printed (replies M (command ∷ commands) (with_own refusals)) ≡ text ++ printed (replies next commands refusals)
+    printed_after : (commands : List (Option Command)) (refusals : List Bool)
+        → printed (replies M (command ∷ commands) (with_own refusals)) ≡ text ++ printed (replies next commands refusals)
     printed_after commands refusals =
-        ap printed (go (may_refuse M command) refl) ∙ flat_map-append reply_line (answer_lines (step M command x)) (replies next commands refusals)
+        ap printed (go (may_refuse M command) refl)
+        ∙ flat_map-append reply_line (answer_lines (step M command x)) (replies next commands refusals)
       where
-        go : (may : Bool) → may_refuse M command ≡ may → replies M (command ∷ commands) (refusals_of may x ++ refusals) ≡ answer_lines (step M command x) ++ replies (step M command x).next commands refusals
+        go : (may : Bool) → may_refuse M command ≡ may
+            → replies M (command ∷ commands) (refusals_of may x ++ refusals)
+            ≡ answer_lines (step M command x) ++ replies (step M command x).next commands refusals
         go true e = rw e refl
         go false e = rw e refl
 
-    Answered-more : (commands : List (Option Command)) (old mid new : Counted W) (refusals : List Bool) → Closed contents 1 old mid text
-        → Answered next commands refusals mid new → Answered M (command ∷ commands) (with_own refusals) old new
+    Answered-more : (commands : List (Option Command)) (old mid new : Counted W) (refusals : List Bool)
+        → Closed contents 1 old mid text → Answered next commands refusals mid new → Answered M (command ∷ commands) (with_own refusals) old new
     Answered-more commands old mid new refusals p q =
-        subst (Closed contents (length (command ∷ commands)) old new) (sym (printed_after commands refusals)) (Closed-after contents (command ∷ []) commands old mid new _ _ p q)
+        subst (Closed contents (length (command ∷ commands)) old new) (sym (printed_after commands refusals))
+        (Closed-after contents (command ∷ []) commands old mid new _ _ p q)
 
     -- the writer failed in the first reply
-    Stopped-first : (commands : List (Option Command)) (old new : Counted W) → Torn contents old new text → Stopped contents M (command ∷ commands) (with_own []) old new
+    Stopped-first : (commands : List (Option Command)) (old new : Counted W) → Torn contents old new text
+        → Stopped contents M (command ∷ commands) (with_own []) old new
     Stopped-first commands old new q =
         let later = printed (replies next commands []) in
         record {
@@ -92,8 +98,8 @@ module _ {W : Type 0} (contents : W → Option (List ℕ)) where
         }
 
     -- after the first reply
-    Stopped-more : (commands : List (Option Command)) (old mid new : Counted W) (refusals : List Bool) → Closed contents 1 old mid text
-        → Stopped contents next commands refusals mid new → Stopped contents M (command ∷ commands) (with_own refusals) old new
+    Stopped-more : (commands : List (Option Command)) (old mid new : Counted W) (refusals : List Bool)
+        → Closed contents 1 old mid text → Stopped contents next commands refusals mid new → Stopped contents M (command ∷ commands) (with_own refusals) old new
     Stopped-more commands old mid new refusals p q =
         let first = λ (n : ℕ). printed_after (take n commands) refusals in
         let done = printed (replies next (take q.answered commands) refusals) in
@@ -115,14 +121,18 @@ module _ {W : Type 0} (contents : W → Option (List ℕ)) where
   -- ---- pieces
 
   -- a piece was answered as its command
-  answer_of : (M N : List Stored) (piece : List ℕ) (old new : Counted W) (r : Result Unit RunError) → Takes M (line_of piece) old r N new → Answers contents M N (command_of piece) old new r
+  answer_of : (M N : List Stored) (piece : List ℕ) (old new : Counted W) (r : Result Unit RunError)
+      → Takes M (line_of piece) old r N new → Answers contents M N (command_of piece) old new r
   answer_of M N piece old new r a = subst (λ c. Answers contents M N c old new r) (piece_spells of_commands piece) a
 
   -- all pieces were answered: what holds of the commands after them holds of all commands
   module _ (E : List Stored → List (Option Command) → List Bool → Counted W → Counted W → Type 0)
-      (more : (M : List Stored) (command : Option Command) (x : Bool) (commands : List (Option Command)) (old mid new : Counted W) (refusals : List Bool) → Closed contents 1 old mid (printed (answer_lines (step M command x)))
-      → E (step M command x).next commands refusals mid new → E M (command ∷ commands) (refusals_of (may_refuse M command) x ++ refusals) old new) (N : List Stored) (after : List (Option Command)) where
-    answered : (M : List Stored) (ps : List (List ℕ)) (old mid new : Counted W) → TakesAll Takes M (map line_of ps) old (Ok tt) N mid → (refusals : List Bool) × E N after refusals mid new
+      (more : (M : List Stored) (command : Option Command) (x : Bool) (commands : List (Option Command)) (old mid new : Counted W)
+      → (refusals : List Bool) → Closed contents 1 old mid (text M command x)
+      → E (next M command x) commands refusals mid new → E M (command ∷ commands) (with_own M command x refusals) old new)
+      (N : List Stored) (after : List (Option Command)) where
+    answered : (M : List Stored) (ps : List (List ℕ)) (old mid new : Counted W)
+        → TakesAll Takes M (map line_of ps) old (Ok tt) N mid → (refusals : List Bool) × E N after refusals mid new
         → (refusals : List Bool) × E M (map command_of ps ++ after) refusals old new
     answered M [] old mid new t k = (k.0, subst (λ T. E T after k.0 old new) t.1 (subst (λ w. E N after k.0 w new) t.2 k.1))
     answered M (p ∷ ps) old mid new t k = ⊎_elim
@@ -130,12 +140,14 @@ module _ {W : Type 0} (contents : W → Option (List ℕ)) where
         let a = answer_of M q.0 p old q.1 (Ok tt) q.2 in
         let (refusals, later) = answered q.0 ps q.1 mid new q.3 k in
         let commands = map command_of ps ++ after in
-        (refusals_of (may_refuse M (command_of p)) a.refused ++ refusals, more M (command_of p) a.refused commands old q.1 new refusals a.reply (subst (λ T. E T commands refusals q.1 new) a.table later)))
+        let then = subst (λ T. E T commands refusals q.1 new) a.table later in
+        (with_own M (command_of p) a.refused refusals, more M (command_of p) a.refused commands old q.1 new refusals a.reply then))
         (λ q. absurd (cc (q.0)))
         t
 
   -- the writer failed
-  stopped : (M N : List Stored) (ps : List (List ℕ)) (old new : Counted W) (e : RunError) → TakesAll Takes M (map line_of ps) old (Err e) N new
+  stopped : (M N : List Stored) (ps : List (List ℕ)) (old new : Counted W) (e : RunError)
+      → TakesAll Takes M (map line_of ps) old (Err e) N new
       → (refusals : List Bool) × (e ≡ Why.Write) × Stopped contents M (map command_of ps) refusals old new
   stopped M N [] old new e t = absurd (cc (t.0))
   stopped M N (p ∷ ps) old new e t = ⊎_elim
@@ -143,35 +155,47 @@ module _ {W : Type 0} (contents : W → Option (List ℕ)) where
       let a = answer_of M q.0 p old q.1 (Ok tt) q.2 in
       let (refusals, write, later) = stopped q.0 N ps q.1 new e q.3 in
       let commands = map command_of ps in
-      (refusals_of (may_refuse M (command_of p)) a.refused ++ refusals, write, Stopped-more M (command_of p) a.refused commands old q.1 new refusals a.reply (subst (λ T. Stopped contents T commands refusals q.1 new) a.table later)))
+      let then = subst (λ T. Stopped contents T commands refusals q.1 new) a.table later in (
+        with_own M (command_of p) a.refused refusals,
+        write,
+        Stopped-more M (command_of p) a.refused commands old q.1 new refusals a.reply then,
+      ))
       (λ q.
-      let a = answer_of M N p old new (Err e) q.1 in
-      (refusals_of (may_refuse M (command_of p)) a.refused ++ [], a.reply.0, Stopped-first M (command_of p) a.refused (map command_of ps) old new a.reply.1))
+      let a = answer_of M N p old new (Err e) q.1 in (
+        with_own M (command_of p) a.refused [],
+        a.reply.0,
+        Stopped-first M (command_of p) a.refused (map command_of ps) old new a.reply.1,
+      ))
       t
 
   -- what stands after the last line end is answered, if there is anything
-  end_answered : (M : List Stored) (bs : List ℕ) (old new : Counted W) → Closed contents (replies_to_rest (rest_of bs)) old new (reply_to_rest (rest_of bs)) → Answered M (at_end bs) [] old new
+  end_answered : (M : List Stored) (bs : List ℕ) (old new : Counted W)
+      → Closed contents (replies_to_rest (rest_of bs)) old new (reply_to_rest (rest_of bs)) → Answered M (at_end bs) [] old new
   end_answered M [] old new q = q
   end_answered M (b ∷ bs) old new q = q
 
-  end_stopped : (M : List Stored) (bs : List ℕ) (old new : Counted W) → rest_of bs ≡ Held → Torn contents old new (reply_to_rest (rest_of bs)) → Stopped contents M (at_end bs) [] old new
+  end_stopped : (M : List Stored) (bs : List ℕ) (old new : Counted W) → rest_of bs ≡ Held
+      → Torn contents old new (reply_to_rest (rest_of bs)) → Stopped contents M (at_end bs) [] old new
   end_stopped M [] old new held q = absurd (cc)
   end_stopped M (b ∷ bs) old new held q = Stopped-first M None false [] old new q
 
 -- ---- a run of a new leader
 
 module _ {R W : Type 0} (remaining : R → Option (List ℕ)) (contents : W → Option (List ℕ)) (from to : Counted R) (old : Counted W) (N : List Stored) where
-  lines_closed : (bytes : List ℕ) (mid : Counted W) → TakesAll (Takes contents) [] (map line_of (lines bytes)) old (Ok tt) N mid → (refusals : List Bool) × Answered contents [] (whole_commands bytes) refusals old mid
+  lines_closed : (bytes : List ℕ) (mid : Counted W) → TakesAll (Takes contents) [] (map line_of (lines bytes)) old (Ok tt) N mid
+      → (refusals : List Bool) × Answered contents [] (whole_commands bytes) refusals old mid
   lines_closed bytes mid t =
       subst (λ cs. (refusals : List Bool) × Answered contents [] cs refusals old mid) (append-nil (whole_commands bytes))
       (answered contents (Answered contents) (Answered-more contents) N [] [] (lines bytes) old mid mid t ([], Closed-nil contents mid))
 
   -- that did not reach the end
-  pub lead_stopped : (e : RunError) (new : Counted W) → Runs (Takes contents) remaining [] from old (Err e) N to new → LeadEnds remaining contents from to old new (Err e)
+  pub lead_stopped : (e : RunError) (new : Counted W) → Runs (Takes contents) remaining [] from old (Err e) N to new
+      → LeadEnds remaining contents from to old new (Err e)
   lead_stopped e new x = ⊎_elim
       (λ p.
       let a = lines_closed x.bytes new p.0 in
-      subst (λ k. LeadEnds remaining contents from to old new (Err k)) (sym p.1) (record { bytes = x.bytes; read = x.read; holds = (a.0, rw (lines_answered x.bytes a.0) a.1) }, p.2))
+      subst (λ k. LeadEnds remaining contents from to old new (Err k)) (sym p.1)
+      (record { bytes = x.bytes; read = x.read; holds = (a.0, rw (lines_answered x.bytes a.0) a.1) }, p.2))
       (λ p.
       let a = stopped contents [] N (lines x.bytes) old new e p.0 in
       subst (λ k. LeadEnds remaining contents from to old new (Err k)) (sym a.1) (inl (record { bytes = x.bytes; read = x.read; holds = (a.0, a.2) }, p.1)))
@@ -185,13 +209,17 @@ module _ {R W : Type 0} (remaining : R → Option (List ℕ)) (contents : W → 
     pub lead_ended : (new : Counted W) (r : Result Unit RunError) → Closes contents (replies_to_rest left) mid new r (reply_to_rest left) → (IsErr r → left ≡ Held) → LeadEnds remaining contents from to old new r
     lead_ended new (Ok done) w held =
         let last = rw x.ends.1 at w in
-        let a = answered contents (Answered contents) (Answered-more contents) N (at_end (rest x.bytes)) [] (lines x.bytes) old mid new x.ends.0 ([], end_answered contents N (rest x.bytes) mid new last) in
+        let bs = rest x.bytes in
+        let a = answered contents (Answered contents) (Answered-more contents) N (at_end bs) [] (lines x.bytes) old mid new x.ends.0
+        ([], end_answered contents N bs mid new last) in
         (record { bytes = x.bytes; read = x.read; holds = (a.0, rw (all_answered x.bytes a.0) a.1) }, x.ends.2)
     lead_ended new (Err e) w held =
         let last = rw x.ends.1 at w.1 in
-        let torn = end_stopped contents N (rest x.bytes) mid new (sym x.ends.1 ∙ held refl) last in
-        let a = answered contents (Stopped contents) (Stopped-more contents) N (at_end (rest x.bytes)) [] (lines x.bytes) old mid new x.ends.0 ([], torn) in
-        subst (λ k. LeadEnds remaining contents from to old new (Err k)) (sym w.0) (inr (record { bytes = x.bytes; read = x.read; holds = a }, x.ends.2))
+        let bs = rest x.bytes in
+        let a = answered contents (Stopped contents) (Stopped-more contents) N (at_end bs) [] (lines x.bytes) old mid new x.ends.0
+        ([], end_stopped contents N bs mid new (sym x.ends.1 ∙ held refl) last) in
+        subst (λ k. LeadEnds remaining contents from to old new (Err k)) (sym w.0)
+        (inr (record { bytes = x.bytes; read = x.read; holds = a }, x.ends.2))
 
 -- where the reader tells its bytes
 pub lead_known : {R W : Type 0} (remaining : R → Option (List ℕ)) (contents : W → Option (List ℕ)) (from to : Counted R) (old new : Counted W) (r : Result Unit RunError) → LeadEnds remaining contents from to old new r

@@ -3,7 +3,7 @@ use Rattle.std.proofs.Common.{◌≡◌, ◌≢◌, ℕ, zero, suc, ◌+◌, ◌
 use Rattle.std.specs.List.{filter_map, flat_map, AllByRecursion}
 use Rattle.std.specs.Fmt.{digits, digits_onto, digit_glyph}
 use Rattle.std.proofs.lemmas.Bool.{cond_both}
-use Rattle.std.proofs.lemmas.List.Elements.{All-append, All-nil, All-cons, All-head, All-tail, All-map, recursion_from_All}
+use Rattle.std.proofs.lemmas.List.Elements.{All-append, All-nil, All-cons, All-head, All-tail, All-map, All-weaker, recursion_from_All}
 use Rattle.std.proofs.lemmas.List.Folds.{flat_map-map}
 use Rattle.ipnet_addr.proofs.Members.{In}
 use Rattle.ipnet_addr.proofs.Ascending.{In-from_All, In-from_Contains, Contains-from_In}
@@ -69,7 +69,9 @@ no_step b false (l ∷ ls) f = (cc, cc)
 
 no_lines_clean : (bs : List ℕ) → lines bs ≡ [] → HasNoEnd bs
 no_lines_clean [] e = All-nil (λ c. c ≢ 10)
-no_lines_clean (b ∷ bs) e = let (ends, none) = no_step b (b == 10) (lines bs) e in All-cons (λ c. c ≢ 10) b bs (no_end b ends) (no_lines_clean bs none)
+no_lines_clean (b ∷ bs) e =
+    let (ends, none) = no_step b (b == 10) (lines bs) e in
+    All-cons (λ c. c ≢ 10) b bs (no_end b ends) (no_lines_clean bs none)
 
 rest_clean : (bs : List ℕ) → HasNoEnd (rest bs)
 rest_clean [] = All-nil (λ c. c ≢ 10)
@@ -92,14 +94,17 @@ rest_after : (text bytes : List ℕ) → AllByRecursion (λ c. c ≢ 10) text �
 rest_after [] bytes h = refl
 rest_after (c ∷ cs) bytes h = ap (λ ps. if_no_piece ps (c ∷ cs ++ 10 ∷ bytes) (rest (cs ++ 10 ∷ bytes))) (first_line (c ∷ cs) bytes h) ∙ rest_after cs bytes h.1
 
-split_one : (ps : List (List ℕ)) (r : List ℕ) → All HasNoEnd ps → HasNoEnd r → (ps ≡ lines (flat_map with_end ps ++ r)) × (r ≡ rest (flat_map with_end ps ++ r))
+split_one : (ps : List (List ℕ)) (r : List ℕ) → All HasNoEnd ps → HasNoEnd r
+    → (ps ≡ lines (flat_map with_end ps ++ r)) × (r ≡ rest (flat_map with_end ps ++ r))
 split_one [] r h k = let clean = recursion_from_All (λ c. c ≢ 10) r k in (sym (no_lines r clean), sym (all_rest r clean))
 split_one (p ∷ ps) r h k =
     let (same, last) = split_one ps r (All-tail HasNoEnd p ps h) k in
     let bytes = flat_map with_end ps ++ r in
     let clean = recursion_from_All (λ c. c ≢ 10) p (All-head HasNoEnd p ps h) in
-    let whole : flat_map with_end (p ∷ ps) ++ r ≡ p ++ 10 ∷ bytes = simp append_assoc in
-    (ap (λ ls. p ∷ ls) same ∙ sym (ap lines whole ∙ first_line p bytes clean), last ∙ sym (ap rest whole ∙ rest_after p bytes clean))
+    let whole : flat_map with_end (p ∷ ps) ++ r ≡ p ++ 10 ∷ bytes = simp append_assoc in (
+      ap (λ ls. p ∷ ls) same ∙ sym (ap lines whole ∙ first_line p bytes clean),
+      last ∙ sym (ap rest whole ∙ rest_after p bytes clean),
+    )
 
 pub split_is_lines : SplitIsLines
 split_is_lines bytes ps r = (
@@ -111,15 +116,16 @@ split_is_lines bytes ps r = (
 pub text_lines : {A : Type 0} (text : A → List ℕ) (xs : List A) → All (λ a. HasNoEnd (text a)) xs
     → (map text xs ≡ lines (flat_map (λ a. with_end (text a)) xs)) × ([] ≡ rest (flat_map (λ a. with_end (text a)) xs))
 text_lines text xs h = (split_is_lines (flat_map (λ a. with_end (text a)) xs) (map text xs) []).0
-    (record { made = sym (append-nil _ ∙ flat_map-map with_end text xs); clean = All-map HasNoEnd text xs h; ended = All-nil (λ c. c ≢ 10) })
+    (record {
+      made = sym (append-nil _ ∙ flat_map-map with_end text xs);
+      clean = All-map HasNoEnd text xs h;
+      ended = All-nil (λ c. c ≢ 10);
+    })
 
 -- ---- what is read of printed lines
 
 abbrev pub reread : List Reply → List Reply
 reread ls = filter_map reply_of (map reply_text ls)
-
-pub read_again : (ls : List Reply) → All (λ l. HasNoEnd (reply_text l)) ls → replies_in (printed ls) ≡ reread ls
-read_again ls h = ap (filter_map reply_of) (sym (text_lines reply_text ls h).0)
 
 -- what is read of a line closes a reply as the line does, and tells the same change
 abbrev pub Keeps : Reply → Option Reply → Type 0
@@ -140,8 +146,18 @@ abbrev pub IsTold : Type 0 → Reply → Type 0
 IsTold few l = IsPrinted few l × (closes l ≡ None)
 
 pub printed_if_read : (few : Type 0) (l : Reply) → IsReply (reply_text l) l → IsPrinted few l
-printed_if_read few l h =
-    record { clean = replies.clean (reply_text l) l h; kept = subst (Keeps l) (sym (read_is of_replies (reply_text l) l h)) (refl, refl); spelled = λ _. h }
+printed_if_read few l h = record {
+  clean = replies.clean (reply_text l) l h;
+  kept = subst (Keeps l) (sym (read_is of_replies (reply_text l) l h)) (refl, refl);
+  spelled = λ _. h;
+}
+
+pub lines_of_printed : (few : Type 0) (ls : List Reply) → All (IsPrinted few) ls → map reply_text ls ≡ lines (printed ls)
+lines_of_printed few ls h =
+    (text_lines reply_text ls (All-weaker (IsPrinted few) (λ l. HasNoEnd (reply_text l)) (λ l p. p.clean) ls h)).0
+
+pub read_again : (few : Type 0) (ls : List Reply) → All (IsPrinted few) ls → replies_in (printed ls) ≡ reread ls
+read_again few ls h = ap (filter_map reply_of) (sym (lines_of_printed few ls h))
 
 -- ---- networks, hops and numbers
 
@@ -174,7 +190,8 @@ piece_within M p i = (((search_is_flat (hop_at M)).exact p).0 (Contains-from_In 
 -- ---- lines that are told
 
 module _ (few : Type 0) where
-  pub route_told : (b : Block) (hop : Hop) (pref : ℕ) → IsBlock b → IsHop hop → pref < 2 ^ 16 → IsTold few (R.Route (network_at b) hop (Some pref))
+  pub route_told : (b : Block) (hop : Hop) (pref : ℕ) → IsBlock b → IsHop hop → pref < 2 ^ 16
+      → IsTold few (R.Route (network_at b) hop (Some pref))
   route_told b hop pref ok is small =
       let line = R.Route (network_at b) hop (Some pref) in
       (printed_if_read few line (prints line (is_cut b) (net_reads b ok, word_hop hop is, omega (arith, small))), refl)
@@ -188,7 +205,7 @@ module _ (few : Type 0) where
     change_told b ok = go (hop_at M (first_of b)) refl
       where
         go : (o : Option ℕ) → hop_at M (first_of b) ≡ o → IsTold few (change_line o b)
-        go None e = (printed_if_read few (R.Unset (network_at b)) (prints (R.Unset (network_at b)) (is_cut b) (net_reads b ok)), refl)
+        go None e = let line = R.Unset (network_at b) in (printed_if_read few line (prints line (is_cut b) (net_reads b ok)), refl)
         go (Some n) e =
             let line = R.Set (network_at b) n in
             (printed_if_read few line (prints line (is_cut b) (net_reads b ok, hop_small M m b ok n e)), refl)

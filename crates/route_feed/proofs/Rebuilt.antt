@@ -52,7 +52,8 @@ use Rattle.route_feed.proofs.Carried.{either}
 -- ---- the lines
 
 -- the line of a command that adds a hop with the default preference
-line_is : (net : IpNet) (hop : Hop) → codes "add " ++ net_text net ++ codes " " ++ hop_text hop ++ codes "\n" ≡ command_line (Add net hop default_preference)
+line_is : (net : IpNet) (hop : Hop)
+    → codes "add " ++ net_text net ++ codes " " ++ hop_text hop ++ codes "\n" ≡ command_line (Add net hop default_preference)
 line_is net hop = ap (λ t. t ++ codes "\n") (sym (append-nil (codes "add " ++ net_text net ++ codes " " ++ hop_text hop)))
 
 -- the bytes of the lines that add routes
@@ -60,13 +61,16 @@ abbrev pub add_bytes : List (IpNet × Hop) → List ℕ
 add_bytes routes = add_lines (routes_for routes)
 
 -- the line of the first route, which is printed without host bits, and the routes after it
-pub next_add : (routes : List (IpNet × Hop)) (net : IpNet) (hop : Hop) (left : List (IpNet × Hop)) → routes ≡ (net, hop) ∷ left → HaveNoHostBits routes
-    → (add_bytes routes ≡ command_line (Add net hop default_preference) ++ add_bytes left) × HaveNoHostBits left × (net ≡ network_at (block net))
+pub next_add : (routes : List (IpNet × Hop)) (net : IpNet) (hop : Hop) (left : List (IpNet × Hop))
+    → routes ≡ (net, hop) ∷ left → HaveNoHostBits routes
+    → (add_bytes routes ≡ command_line (Add net hop default_preference) ++ add_bytes left)
+    × HaveNoHostBits left × (net ≡ network_at (block net))
 next_add routes net hop left e cut =
+    let is_cut = λ (r : IpNet × Hop). IsTruncated (family r.0) (parts r.0) in
     let all = subst HaveNoHostBits e cut in
-    let is = network_is net (All-head (λ r. IsTruncated (family r.0) (parts r.0)) (net, hop) left all) in
+    let is = network_is net (All-head is_cut (net, hop) left all) in
     let line = line_is (network_at (block net)) hop ∙ ap (λ n. command_line (Add n hop default_preference)) (sym is) in
-    (ap add_bytes e ∙ ap (λ t. t ++ add_bytes left) line, All-tail (λ r. IsTruncated (family r.0) (parts r.0)) (net, hop) left all, is)
+    (ap add_bytes e ∙ ap (λ t. t ++ add_bytes left) line, All-tail is_cut (net, hop) left all, is)
 
 abbrev line : Route → List ℕ
 line r = command_text (add_command r)
@@ -77,18 +81,21 @@ Spells r = IsCommand (line r) (add_command r)
 lines_spell : (N : List Route) → IsTable N → All Spells N
 lines_spell N n = All-from_In Spells N (λ r i.
     let hop = In-from_All (λ s. IsHop s.hop) N n.hops r i in
-    prints (add_command r) (is_cut r.block) (net_reads r.block (In-from_All (λ s. IsBlock s.block) N n.blocks r i), word_hop r.hop hop, omega arith))
+    let is_block = In-from_All (λ s. IsBlock s.block) N n.blocks r i in
+    prints (add_command r) (is_cut r.block) (net_reads r.block is_block, word_hop r.hop hop, omega arith))
 
 given_is : (N : List Route) → IsTable N → commands_of (add_lines N) ≡ map (λ r. Some (add_command r)) N
 given_is N n =
     let spells = lines_spell N n in
     let bytes : add_lines N ≡ flat_map (λ r. with_end (line r)) N = λ i. flat_map (λ r. line_is (network_at r.block) r.hop i) N in
-    let (pieces, none) = text_lines line N (All-weaker Spells (λ r. HasNoEnd (line r)) (λ r. commands.clean (line r) (add_command r)) N spells) in
+    let clean = All-weaker Spells (λ r. HasNoEnd (line r)) (λ r. commands.clean (line r) (add_command r)) N spells in
+    let (pieces, none) = text_lines line N clean in
     ap commands_of bytes
     ∙ ap₂ (λ ps bs. map command_of ps ++ at_end bs) (sym pieces) (sym none)
     ∙ append-nil (map command_of (map line N))
     ∙ map-map command_of line N
-    ∙ map_same (λ r. command_of (line r)) (λ r. Some (add_command r)) N (λ r i. read_is of_commands (line r) (add_command r) (In-from_All Spells N spells r i))
+    ∙ map_same (λ r. command_of (line r)) (λ r. Some (add_command r)) N
+    (λ r i. read_is of_commands (line r) (add_command r) (In-from_All Spells N spells r i))
 
 -- ---- the table
 
@@ -149,12 +156,15 @@ no_hops_no_lines bytes N none least = ap add_lines (no_routes N (least.fewest []
 -- a table of networks stays one after any commands
 after_is : (M : List Stored) (commands : List (Option Command)) (r : List Bool) → IsStoredTable M → All IsInRange commands → IsStoredTable (table_after M commands r)
 after_is M [] r m h = m
-after_is M (c ∷ cs) r m h = after_is (step M c (get_or r 0 false)).next cs (refusals_after M c r) (form_step M m c (get_or r 0 false) (All-head IsInRange c cs h)).table (All-tail IsInRange c cs h)
+after_is M (c ∷ cs) r m h =
+    let form = form_step M m c (get_or r 0 false) (All-head IsInRange c cs h) in
+    after_is (step M c (get_or r 0 false)).next cs (refusals_after M c r) form.table (All-tail IsInRange c cs h)
 
 pub told_is_table : ToldIsTable
 told_is_table bytes front refusals =
     let n = closings (replies_in front) in
-    after_is [] (take n (commands_of bytes)) refusals no_networks (All-take IsInRange n (commands_of bytes) (commands_are_in_range bytes))
+    let range = All-take IsInRange n (commands_of bytes) (commands_are_in_range bytes) in
+    after_is [] (take n (commands_of bytes)) refusals no_networks range
 
 pub restarted_agree : RestartedAgree
 restarted_agree bytes front back refusals e x a =

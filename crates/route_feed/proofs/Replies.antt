@@ -63,7 +63,8 @@ changed_length M b [] = let h = filtered_length (λ (s : Stored). not (same_bloc
 changed_length M b (c ∷ cs) =
     let below = λ (t : Stored). is_before t.block b in
     let above = λ (t : Stored). is_before b t.block in
-    let apart = length-apart below above M (λ t e f. strict t.block b (before_from_test t.block b e) (before_from_test b t.block f)) in
+    let apart = length-apart below above M (λ t e f.
+    strict t.block b (before_from_test t.block b e) (before_from_test b t.block f)) in
     let s : Stored = record { block = b; choices = c ∷ cs } in
     omega (arith, apart, length-append (filter below M) (s ∷ filter above M))
 
@@ -78,18 +79,17 @@ module _ (M : List Stored) (m : IsStoredTable M) where
   best = routes_are_table M m
 
   -- lines that tell no change
-  form_kept : (ls : List Reply) (closing : Closing) → All (IsTold few) ls → changes_in ls ≡ [] → Form M (record { body = ls; closing = closing; next = M })
-  form_kept ls closing h e = record {
-    told = h;
-    paints = λ x a. ap (λ cs. painted_over (hop_at routes x) cs x) (cond_both (is_done closing) (changes_in ls) [] (λ cs. cs ≡ []) (λ _. e) (λ _. refl));
-    table = m;
-    grown = omega arith;
-  }
+  form_kept : (ls : List Reply) (closing : Closing) → All (IsTold few) ls → changes_in ls ≡ []
+      → Form M (record { body = ls; closing = closing; next = M })
+  form_kept ls closing h e =
+      let none = cond_both (is_done closing) (changes_in ls) [] (λ cs. cs ≡ []) (λ _. e) (λ _. refl) in
+      record { told = h; paints = λ x a. ap (λ cs. painted_over (hop_at routes x) cs x) none; table = m; grown = omega arith }
 
   form_closed : (closing : Closing) → Form M (closed M closing)
   form_closed closing = form_kept [] closing (All-nil (IsTold few)) refl
 
-  form_listed : {A : Type 0} (line : A → Reply) → ((x : A) → change_of (line x) ≡ None) → (xs : List A) → All (λ x. IsTold few (line x)) xs → Form M (listed M (map line xs))
+  form_listed : {A : Type 0} (line : A → Reply) → ((x : A) → change_of (line x) ≡ None)
+      → (xs : List A) → All (λ x. IsTold few (line x)) xs → Form M (listed M (map line xs))
   form_listed line none xs h = form_kept (map line xs) Done (All-map (IsTold few) line xs h) (no_changes line none xs)
 
   -- a change of the choices of one block
@@ -100,10 +100,13 @@ module _ (M : List Stored) (m : IsStoredTable M) where
       let n = with_choices_is M m b cs ok are in
       let bs = maximal_of (changed routes N) in
       let line = λ (d : Block). change_line (hop_at N (first_of d)) d in
-      let is_block = λ (d : Block) (i : In d bs). ((changed_is_maximal routes N).exact d).0 (Contains-from_In bs d i) in
+      let lines = All-from_In (λ d. IsTold few (line d)) bs (λ d i.
+      let is = ((changed_is_maximal routes N).exact d).0 (Contains-from_In bs d i) in
+      change_told few N (routes_are_table (with_choices M b cs) n) d is.within.block) in
+      let one = λ (d : Block) (i : In d bs). choices_have_one_hop M m b ok cs are d (Contains-from_In bs d i) in
       record {
-        told = All-map (IsTold few) line bs (All-from_In (λ d. IsTold few (line d)) bs (λ d i. change_told few N (routes_are_table (with_choices M b cs) n) d (is_block d i).within.block));
-        paints = change_painted routes N (match_number (match_of N b)) (λ d i. choices_have_one_hop M m b ok cs are d (Contains-from_In bs d i));
+        told = All-map (IsTold few) line bs lines;
+        paints = change_painted routes N (match_number (match_of N b)) one;
         table = n;
         grown = changed_length M b cs;
       }
@@ -112,16 +115,20 @@ module _ (M : List Stored) (m : IsStoredTable M) where
   member_told r i =
       let t = In-map best_route M r i in
       let small = subst (λ (s : Route). s.pref < 2 ^ 16) (sym t.2) (small_best t.0.choices (stored_choices M m t.0 t.1)) in
-      route_told few r.block r.hop r.pref (In-from_All (λ s. IsBlock s.block) routes best.blocks r i) (In-from_All (λ s. IsHop s.hop) routes best.hops r i) small
+      let hop = In-from_All (λ s. IsHop s.hop) routes best.hops r i in
+      route_told few r.block r.hop r.pref (In-from_All (λ s. IsBlock s.block) routes best.blocks r i) hop small
 
-  form_routes : (rs : List Route) → All (λ r. IsTold few (route_line r)) rs → Form M (listed M (map route_line rs))
+  abbrev IsToldRoute : Route → Type 0
+  IsToldRoute r = IsTold few (route_line r)
+
+  form_routes : (rs : List Route) → All IsToldRoute rs → Form M (listed M (map route_line rs))
   form_routes = form_listed route_line (λ r. refl)
 
-  some_told : (p : Route → Bool) → All (λ r. IsTold few (route_line r)) (filter p routes)
-  some_told p = All-filter p (λ r. IsTold few (route_line r)) routes (All-from_In (λ r. IsTold few (route_line r)) routes member_told)
+  some_told : (p : Route → Bool) → All IsToldRoute (filter p routes)
+  some_told p = All-filter p IsToldRoute routes (All-from_In IsToldRoute routes member_told)
 
   form_page : (limit : ℕ) (p : Route → Bool) → Form M (listed M (map route_line (take limit (filter p routes))))
-  form_page limit p = form_routes (take limit (filter p routes)) (All-take (λ r. IsTold few (route_line r)) limit (filter p routes) (some_told p))
+  form_page limit p = form_routes (take limit (filter p routes)) (All-take IsToldRoute limit (filter p routes) (some_told p))
 
   -- all choices of a block
   form_all : (b : Block) → IsBlock b → Form M (listed M (map (choice_line b) (choices_at M b)))
@@ -129,7 +136,9 @@ module _ (M : List Stored) (m : IsStoredTable M) where
       let cs = choices_at M b in
       let are = at_are M m b in
       form_listed (choice_line b) (λ c. refl) cs (All-from_In (λ c. IsTold few (choice_line b c)) cs
-      (λ c i. route_told few b c.hop c.pref ok (In-from_All (λ d. IsHop d.hop) cs are.hops c i) (In-from_All (λ d. d.pref < 2 ^ 16) cs are.prefs c i)))
+      (λ c i.
+      let pref = In-from_All (λ d. d.pref < 2 ^ 16) cs are.prefs c i in
+      route_told few b c.hop c.pref ok (In-from_All (λ d. IsHop d.hop) cs are.hops c i) pref))
 
   form_match : (n : Block) → Form M (option_map_or (λ r. listed M (route_line r ∷ [])) (match_of routes n) (closed M Missing))
   form_match n = go (match_of routes n) (best_of (covering routes n))
@@ -137,16 +146,16 @@ module _ (M : List Stored) (m : IsStoredTable M) where
       go : (o : Option Route) → MatchOption o ((s : Route) → In s (covering routes n) → ⊥) (λ s. AtLeast s (covering routes n)) → Form M (option_map_or (λ r. listed M (route_line r ∷ [])) o (closed M Missing))
       go None h = form_closed Missing
       go (Some r) h =
-          let told = λ (s : Route). IsTold few (route_line s) in
-          form_routes (r ∷ []) (All-cons told r [] (member_told r (In-from_filter _ routes r h.0).0) (All-nil told))
+          form_routes (r ∷ []) (All-cons IsToldRoute r [] (member_told r (In-from_filter _ routes r h.0).0) (All-nil IsToldRoute))
 
   form_owned : (number : ℕ) → Form M (listed M (map own_line (blocks_of (filter (λ p. p.number == number) (flat_of (hop_at routes))))))
   form_owned number =
       let all = flat_of (hop_at routes) in
       let told = λ (p : Piece). IsTold few (own_line p.block) in
       let ps = filter (λ (p : Piece). p.number == number) all in
+      let each = All-from_In told all (λ p i. own_told few p.block (piece_within routes p i).block) in
       subst (λ ls. Form M (listed M ls)) (sym (map-map own_line (λ (p : Piece). p.block) ps))
-      (form_listed (λ p. own_line p.block) (λ p. refl) ps (All-filter _ told all (All-from_In told all (λ p i. own_told few p.block (piece_within routes p i).block))))
+      (form_listed (λ p. own_line p.block) (λ p. refl) ps (All-filter _ told all each))
 
   few_counted : few → (count_of Ipv4 routes ≤ 0xffffffffffffffff) × (count_of Ipv6 routes ≤ 0xffffffffffffffff)
   few_counted h =
@@ -161,7 +170,8 @@ module _ (M : List Stored) (m : IsStoredTable M) where
       form_choices (block net) (choices_with cs (record { hop = hop; pref = pref })) h.0 (with_are cs (at_are M m (block net)) (record { hop = hop; pref = pref }) h.1 h.2 room)
   form_answer (Some (C.Del net hop)) h room =
       let cs = choices_at M (block net) in
-      cond_both (holds_hop cs hop) _ _ (Form M) (λ _. form_choices (block net) (choices_without cs hop) h (without_are cs (at_are M m (block net)) hop)) (λ _. form_closed Missing)
+      let left = form_choices (block net) (choices_without cs hop) h (without_are cs (at_are M m (block net)) hop) in
+      cond_both (holds_hop cs hop) _ _ (Form M) (λ _. left) (λ _. form_closed Missing)
   form_answer (Some (C.Get net)) h room = form_match (block net)
   form_answer (Some (C.Cover net)) h room = form_routes _ (some_told _)
   form_answer (Some (C.List net)) h room = form_routes _ (some_told _)
@@ -170,7 +180,8 @@ module _ (M : List Stored) (m : IsStoredTable M) where
   form_answer (Some (C.PageAfter net limit)) h room = form_page limit _
   form_answer (Some (C.Own number)) h room = form_owned number
   form_answer (Some C.Count) h room =
-      form_kept _ Done (All-cons (IsTold few) _ [] (count_told (count_of Ipv4 routes) (count_of Ipv6 routes) few few_counted) (All-nil (IsTold few))) refl
+      let line = count_told (count_of Ipv4 routes) (count_of Ipv6 routes) few few_counted in
+      form_kept _ Done (All-cons (IsTold few) _ [] line (All-nil (IsTold few))) refl
   form_answer (Some C.Flat) h room =
       let all = flat_of (hop_at routes) in
       form_listed flat_line (λ p. refl) all (All-from_In (λ p. IsTold few (flat_line p)) all (piece_told few routes best))
@@ -178,5 +189,6 @@ module _ (M : List Stored) (m : IsStoredTable M) where
 
   pub form_step : (command : Option Command) (refused : Bool) → IsInRange command → Form M (step M command refused)
   form_step command refused h =
-      cond_both (is_too_many M command) _ _ (Form M) (λ _. form_closed Refused)
-      (λ room. cond_both (may_refuse M command && refused) _ _ (Form M) (λ _. form_closed Refused) (λ _. form_answer command h room))
+      let no = form_closed Refused in
+      cond_both (is_too_many M command) _ _ (Form M) (λ _. no)
+      (λ room. cond_both (may_refuse M command && refused) _ _ (Form M) (λ _. no) (λ _. form_answer command h room))

@@ -1,7 +1,7 @@
 -- Tables that print the same bytes for `flat`.
 use Rattle.std.proofs.Common.{◌≡◌, List, [], ◌∷◌, ◌++◌, map, All, Option, Some, None, refl, sym, ap, ◌∙◌, ◌↔◌}
 use Rattle.std.specs.List.{filter_map}
-use Rattle.std.proofs.lemmas.List.Elements.{All-head, All-map, All-push, All-tail, All-weaker}
+use Rattle.std.proofs.lemmas.List.Elements.{All-head, All-map, All-push, All-tail}
 use Rattle.ipnet_addr.specs.Addresses.{Address, IsAddress}
 use Rattle.ipnet_addr.proofs.Ascending.{All-from_In}
 use Rattle.ipnet.specs.IpNets.{block}
@@ -19,7 +19,7 @@ use Rattle.route_feed.specs.Laws.{flat_bytes}
 use Rattle.route_feed.specs.Steps.{flat_line}
 use Rattle.route_feed.specs.Streams.{replies_in}
 use Rattle.route_feed.proofs.ReadLines.{of_replies, read_is}
-use Rattle.route_feed.proofs.PrintedLines.{HasNoEnd, IsPrinted, piece_told, printed_if_read, read_again, reread}
+use Rattle.route_feed.proofs.PrintedLines.{IsPrinted, piece_told, printed_if_read, read_again, reread}
 
 -- a line that is read as it was printed
 abbrev IsRead : Reply → Type 0
@@ -28,7 +28,8 @@ IsRead l = IsPrinted (Unit {0}) l
 read_as_printed : (ls : List Reply) → All IsRead ls → reread ls ≡ ls
 read_as_printed [] h = refl
 read_as_printed (l ∷ ls) h =
-    rw (read_is of_replies (reply_text l) l ((All-head IsRead l ls h).spelled tt)) (ap (λ ms. l ∷ ms) (read_as_printed ls (All-tail IsRead l ls h)))
+    rw (read_is of_replies (reply_text l) l ((All-head IsRead l ls h).spelled tt))
+    (ap (λ ms. l ∷ ms) (read_as_printed ls (All-tail IsRead l ls h)))
 
 -- the piece that a line tells
 piece_in : Reply → Option Piece
@@ -45,10 +46,9 @@ list_back : (M : List Route) → IsTable M → filter_map piece_in (replies_in (
 list_back M m =
     let ps = flat_of (hop_at M) in
     let ls = map flat_line ps ++ R.Close Done ∷ [] in
-    let flat = All-from_In (λ p. IsRead (flat_line p)) ps (λ p i. (piece_told (Unit {0}) M m p i).0) in
-    let read = All-push IsRead (map flat_line ps) (R.Close Done) (All-map IsRead flat_line ps flat) (printed_if_read (Unit {0}) (R.Close Done) refl) in
-    let again = read_again ls (All-weaker IsRead (λ l. HasNoEnd (reply_text l)) (λ l r. r.clean) ls read) in
-    ap (filter_map piece_in) (again ∙ read_as_printed ls read) ∙ pieces_back ps
+    let flat = All-map IsRead flat_line ps (All-from_In (λ p. IsRead (flat_line p)) ps (λ p i. (piece_told (Unit {0}) M m p i).0)) in
+    let read = All-push IsRead (map flat_line ps) (R.Close Done) flat (printed_if_read (Unit {0}) (R.Close Done) refl) in
+    ap (filter_map piece_in) (read_again (Unit {0}) ls read ∙ read_as_printed ls read) ∙ pieces_back ps
 
 pub same_bytes : (M N : List Route) → IsTable M → IsTable N → (flat_bytes M ≡ flat_bytes N) ↔ ((x : Address) → IsAddress x → hop_at M x ≡ hop_at N x)
 same_bytes M N m n =
