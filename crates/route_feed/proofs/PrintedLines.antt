@@ -132,13 +132,10 @@ abbrev pub Keeps : Reply → Option Reply → Type 0
 Keeps l None = (closes l ≡ None) × (change_of l ≡ None)
 Keeps l (Some m) = (closes m ≡ closes l) × (change_of m ≡ change_of l)
 
-abbrev pub IsKept : Reply → Type 0
-IsKept l = Keeps l (reply_of (reply_text l))
-
 -- a line of an output, which is a reply line if there are few routes
 pub record IsPrinted (few : Type 0) (l : Reply) : Type 0 where
   pub clean : HasNoEnd (reply_text l)
-  pub kept : IsKept l
+  pub kept : Keeps l (reply_of (reply_text l))
   pub spelled : few → IsReply (reply_text l) l
 
 -- and it closes no reply

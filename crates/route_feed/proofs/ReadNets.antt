@@ -36,18 +36,10 @@ preferred_in_range : (text : List ℕ) (hop : Hop) (pref : ℕ) → word.IsPrefe
 preferred_in_range text hop pref h = (let r = optional_in_range text hop h.0 h.1 in (r.0, omega (arith, h.2, r.1)))
 
 spelled_in_range : (text : List ℕ) (o : Option Command) → Gives IsCommand text o → IsInRange o
-spelled_in_range text None h = tt
 spelled_in_range text (Some (C.Add net hop pref)) h = let p = preferred_in_range h.phrase.back hop pref h.phrase.second in (net_is_block h.phrase.front net h.phrase.first, p.0, p.1)
 spelled_in_range text (Some (C.Del net hop)) h = net_is_block h.phrase.front net h.phrase.first
-spelled_in_range text (Some (C.Get net)) h = tt
-spelled_in_range text (Some (C.Cover net)) h = tt
-spelled_in_range text (Some (C.List net)) h = tt
 spelled_in_range text (Some (C.All net)) h = net_is_block h.rest net h.phrase
-spelled_in_range text (Some (C.PageFrom net limit)) h = tt
-spelled_in_range text (Some (C.PageAfter net limit)) h = tt
-spelled_in_range text (Some (C.Own number)) h = tt
-spelled_in_range text (Some C.Count) h = tt
-spelled_in_range text (Some C.Flat) h = tt
+spelled_in_range text other h = tt
 
 pub piece_in_range : (piece : List ℕ) → IsInRange (command_of piece)
 piece_in_range piece = spelled_in_range piece (command_of piece) (command_found piece)
