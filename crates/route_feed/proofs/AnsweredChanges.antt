@@ -1,14 +1,14 @@
--- The lines of a change, by the blocks that the changed network governs.
-use Rattle.std.proofs.Common.{◌≡◌, ◌≢◌, ℕ, ◌⊎◌, inl, inr, ⊎_elim, Bool, true, false, not, ◌&&◌, cond, List, [], ◌∷◌, ◌++◌, map, Option, Some, None, Result, refl, sym, ap, ◌∙◌, subst, option_map}
-use Rattle.std.proofs.lemmas.Bool.{false_from_ne_true, not_from_false}
+-- The lines of a change: the blocks that the changed network governs, what each tells, and the hops that they paint.
+use Rattle.std.proofs.Common.{true≢false, ◌≡◌, ◌≢◌, ℕ, ◌⊎◌, inl, inr, ⊎_elim, Bool, true, false, not, cond, List, [], ◌∷◌, ◌++◌, map, Option, Some, None, Result, refl, sym, ap, ◌∙◌, subst, option_map, filter_map}
+use Rattle.std.proofs.lemmas.Bool.{and_right, cases_Bool, false_from_ne_true, not_from_false}
 use Rattle.ipnet_addr.proofs.Members.{In}
-use Rattle.ipnet_addr.proofs.Ascending.{In-from_Contains, Contains-from_In}
+use Rattle.ipnet_addr.proofs.Ascending.{In-from_Contains, Contains-from_In, In-from_Any}
 use Rattle.ipnet_addr.specs.Addresses.{Address, IsAddress}
-use Rattle.ipnet_blocks.specs.Blocks.{Block, IsBlock, HasAddress, first_of, same_block}
+use Rattle.ipnet_blocks.specs.Blocks.{Block, IsBlock, HasAddress, first_of, same_block, has_address}
 use Rattle.ipnet_blocks.specs.Maximal.{IsMaximal, maximal_of}
 use Rattle.ipnet_blocks.proofs.BlockLaws.{has_first}
 use Rattle.ipnet_blocks.proofs.BlockTests as test
-use Rattle.ipnet_blocks.proofs.Maximals.{maximal_is_unique}
+use Rattle.ipnet_blocks.proofs.Maximals.{maximal_is_unique, maximal_is_union}
 use Rattle.ipnet_blocks.proofs.Unions.{maximal_same}
 use Rattle.ipnet.specs.IpNets.{block, network_at}
 use Rattle.ipnet.specs.declared.ip_net.IpNet.{IpNet}
@@ -24,32 +24,25 @@ use Rattle.route_laws.specs.Changes.{changed, same_number}
 use Rattle.route_laws.specs.Flats.{Piece, IsFlat, flat_of}
 use Rattle.route_laws.proofs.Flats.{search_is_flat, same_flat}
 use Rattle.route_laws.proofs.NetworksAt.{of_network_at}
-use Rattle.route_laws.specs.Networks.{Stored, IsStoredTable, best_route, choices_at, routes_of, with_choices, with_stored, without_choice}
+use Rattle.route_laws.specs.Networks.{Stored, IsStoredTable, choices_at, routes_of, with_choices, with_stored, without_choice}
 use Rattle.route_table.specs.Refusals.{IsRefused}
 use Rattle.route_table.specs.declared.refused.AddRefused.{AddRefused}
 use Rattle.route_table.specs.declared.refused.AddRefused.TheVariants.{Store, TooMany}
-use Rattle.route_laws.specs.Tables.{Route, Changed, Governed, match_of, match_number, hop_at, without_block, item_of}
-use Rattle.route_laws.proofs.Alterations.{governed_after, no_blocks, changed_is_maximal, same_from_test, same_itself, left_back, left_other}
-use Rattle.route_laws.proofs.Networks.{blocks_of_choices, changed_by_choices, choices_have_one_hop, at_cases, at_some, del_none, routes_are_table, routes_with, routes_without, stored_block, stored_choices}
+use Rattle.route_laws.specs.Tables.{Route, Changed, Governed, match_of, match_number, hop_at, item_of}
+use Rattle.route_laws.proofs.Alterations.{no_blocks, changed_is_maximal, same_from_test, same_itself}
+use Rattle.route_laws.proofs.Networks.{blocks_of_choices, changed_by_choices, choices_have_one_hop, is_change, at_cases, at_some, del_none, stored_block, stored_choices}
 use Rattle.route_laws.proofs.Matches.{put_itself}
 use Rattle.route_program.specs.declared.counted.Counted.{Counted}
 use Rattle.route_program.specs.declared.error.RunError.{RunError}
+use Rattle.route_feed.specs.InnerReplies.{TellsGoverned}
 use Rattle.route_feed.specs.Replies.{printed}
 use Rattle.route_feed.specs.Steps.{change_line, change_lines, closed, is_too_many, may_refuse, accepted, step}
 use Rattle.route_program.specs.Devices.{Closes}
-
-module _ (M N : List Route) where
-  -- no hop has changed
-  pub no_lines : ((x : Address) → IsAddress x → Changed M N x → ⊥) → change_lines M N ≡ []
-  unfolding change_lines
-  no_lines none = ap (map (λ b. change_line (hop_at N (first_of b)) b)) (maximal_is_unique (Changed M N) (maximal_of (changed M N)) [] (changed_is_maximal M N) (no_blocks (Changed M N) none))
-
-  -- all addresses whose hop has changed have this one
-  pub some_lines : (after : Option ℕ) (bs : List Block) → IsMaximal (Changed M N) bs → ((b : Block) → In b (maximal_of (changed M N)) → hop_at N (first_of b) ≡ after) → change_lines M N ≡ map (change_line after) bs
-  unfolding change_lines
-  some_lines after bs m one =
-      map_same (λ b. change_line (hop_at N (first_of b)) b) (change_line after) (maximal_of (changed M N)) (λ b i. ap (λ o. change_line o b) (one b i))
-      ∙ ap (map (change_line after)) (maximal_is_unique (Changed M N) (maximal_of (changed M N)) bs (changed_is_maximal M N) m)
+use Rattle.std.specs.List.{AllZip}
+use Rattle.route_lines.specs.declared.reply.Reply.{Reply}
+use Rattle.route_feed.specs.Laws.{ChangesHaveOneHop}
+use Rattle.ipnet_blocks.proofs.BlockTests.{has_from_test, test_from_has}
+use Rattle.route_feed.specs.Streams.{Change, change_of, painted_over}
 
 -- a table with choices at a block has a block there, and choices
 pub changed_is : (M : List Stored) (b : Block) (cs : List Choice) → (cs ≡ [] → ⊥) → IsStoredTable (with_choices M b cs) → IsBlock b × AreChoices cs
@@ -71,34 +64,6 @@ none_left M m b h e = ⊎_elim
     ∙ all_kept (λ s. not (same_block s.block b)) M (λ s i. not_from_false (same_block s.block b) (false_from_ne_true (same_block s.block b) (λ f. t.0 s i (test.same_from_test s.block b f)))))
     (at_cases M b)
 
-module _ (M : List Stored) (m : IsStoredTable M) (b : Block) (ok : IsBlock b) (cs : List Choice) (are : AreChoices cs) where
-  -- a block governs the same after a change of its choices
-  governed_kept : (ds : List Choice) (x : Address) → (Governed (routes_of (with_choices M b ds)) b x → Governed (routes_of M) b x) × (Governed (routes_of M) b x → Governed (routes_of (with_choices M b ds)) b x)
-  governed_kept [] x =
-      let T = routes_of M in
-      let t = routes_are_table M m in
-      subst (λ (N : List Route). (Governed N b x → Governed T b x) × (Governed T b x → Governed N b x)) (sym (routes_without M b)) (
-        (λ g. record {
-          inside = g.inside;
-          free = λ u c l h. g.free u (Contains-from_In (without_block T b) u (left_other T t b u (In-from_Contains T u c) (λ e. l.1 (λ y k. subst (λ (d : Block). HasAddress d y) (sym e) k)))) l h;
-        }),
-        (λ g. record { inside = g.inside; free = λ u c l h. g.free u (Contains-from_In T u (left_back T t b u (In-from_Contains (without_block T b) u c)).0) l h }),
-      )
-  governed_kept (d ∷ ds) x =
-      let s : Stored = record { block = b; choices = d ∷ ds } in
-      subst (λ (N : List Route). (Governed N b x → Governed (routes_of M) b x) × (Governed (routes_of M) b x → Governed N b x)) (sym (routes_with M s)) (governed_after (routes_of M) (best_route s) (routes_are_table M m) ok x)
-
-  pub choices_same : match_number (match_of (routes_of M) b) ≡ match_number (match_of (routes_of (with_choices M b cs)) b) → change_lines (routes_of M) (routes_of (with_choices M b cs)) ≡ []
-  choices_same e = no_lines (routes_of M) (routes_of (with_choices M b cs)) (λ x a c. ((changed_by_choices M m b ok cs are x a).0 c).1 e)
-
-  pub choices_differ : (bs : List Block) → (match_number (match_of (routes_of M) b) ≢ match_number (match_of (routes_of (with_choices M b cs)) b)) → IsMaximal (Governed (routes_of (with_choices M b cs)) b) bs
-      → change_lines (routes_of M) (routes_of (with_choices M b cs)) ≡ map (change_line (match_number (match_of (routes_of (with_choices M b cs)) b))) bs
-  choices_differ bs d g =
-      let N = routes_of (with_choices M b cs) in
-      some_lines (routes_of M) N (match_number (match_of N b)) bs
-      ((blocks_of_choices M m b ok cs bs are (maximal_same (Governed N b) (Governed (routes_of M) b) (λ x a. (governed_kept cs x).0) (λ x a. (governed_kept cs x).1) bs g)).0 d)
-      (λ c i. choices_have_one_hop M m b ok cs are c (Contains-from_In (maximal_of (changed (routes_of M) N)) c i) (first_of c) (has_first c))
-
 -- what is found is handed out without host bits
 pub found_is_printable : (o : Option Route) (p : IpNet × Hop × ℕ) → option_map item_of o ≡ Some p → p.0 ≡ network_at (block p.0)
 found_is_printable None p e = absurd (cc)
@@ -107,35 +72,68 @@ found_is_printable (Some r) p e =
     subst (λ (q : IpNet × Hop × ℕ). q.0 ≡ network_at (block q.0)) same (sym (ap network_at (of_network_at r.block)))
 
 pub same_or_not : (o p : Option ℕ) → (o ≡ p) ⊎ (o ≢ p)
-same_or_not o p = go (same_number o p) refl
-  where
-    go : (b : Bool) → same_number o p ≡ b → (o ≡ p) ⊎ (o ≢ p)
-    go true e = inl (same_from_test o p e)
-    go false e = inr (λ q. let t = same_itself p in let f : same_number p p ≡ false = subst (λ l. same_number l p ≡ false) q e in cc)
+same_or_not o p = ⊎_elim
+    (λ e. inl (same_from_test o p e))
+    (λ e. inr (λ q. true≢false (sym (same_itself p) ∙ ap (λ l. same_number l p) (sym q) ∙ e)))
+    (cases_Bool (same_number o p))
 
--- the lines of a change of the choices of one block, written
-module _ {W : Type 0} (contents : W → Option (List ℕ)) (M T : List Stored) (m : IsStoredTable M) (b : Block) (ok : IsBlock b) (cs : List Choice) (are : AreChoices cs) (is : T ≡ with_choices M b cs)
-    (before after : Option ℕ) (was : before ≡ match_number (match_of (routes_of M) b)) (has : after ≡ match_number (match_of (routes_of T) b)) (old new : Counted W) (result : Result Unit RunError)
-    (same : before ≡ after → Closes contents 1 old new result (printed (Close Done ∷ [])))
-    (differs : before ≢ after → (bs : List Block) × IsMaximal (Governed (routes_of T) b) bs × Closes contents 1 old new result (printed (map (change_line after) bs ++ Close Done ∷ []))) where
-  pub Closes-change : Closes contents 1 old new result (printed (change_lines (routes_of M) (routes_of (with_choices M b cs)) ++ Close Done ∷ []))
-  Closes-change =
-      let now = has ∙ ap (λ (U : List Stored). match_number (match_of (routes_of U) b)) is in
+-- ---- a change of the choices of one block
+
+-- with the same routes of all blocks but n, n governs the same
+governed_from : (M N : List Route) (n : Block) → ((s : Route) → (s.block ≡ n → ⊥) → In s N → In s M)
+    → (x : Address) → Governed M n x → Governed N n x
+governed_from M N n back x g = record {
+  inside = g.inside;
+  free = λ u c l h.
+      let member = back u (λ e. l.1 (λ y k. subst (λ (b : Block). HasAddress b y) (sym e) k)) (In-from_Contains N u c) in
+      g.free u (Contains-from_In M u member) l h;
+}
+
+module _ (M : List Stored) (m : IsStoredTable M) (b : Block) (ok : IsBlock b) (cs : List Choice) (are : AreChoices cs) where
+  abbrev before : List Route
+  before = routes_of M
+
+  abbrev after : List Route
+  after = routes_of (with_choices M b cs)
+
+  -- each block of the change has the hop that the block has then
+  lines_are : (bs : List Block) → IsMaximal (Changed before after) bs
+      → change_lines before after ≡ map (change_line (match_number (match_of after b))) bs
+  unfolding change_lines
+  lines_are bs changes =
+      let found = maximal_of (changed before after) in
+      let hop = match_number (match_of after b) in
+      let one = λ (d : Block) (i : In d found). choices_have_one_hop M m b ok cs are d (Contains-from_In found d i) in
+      map_same (λ d. change_line (hop_at after (first_of d)) d) (change_line hop) found
+      (λ d i. ap (λ o. change_line o d) (one d i (first_of d) (has_first d)))
+      ∙ ap (map (change_line hop)) (maximal_is_unique (Changed before after) found bs (changed_is_maximal before after) changes)
+
+  governed_before : (bs : List Block) → IsMaximal (Governed after b) bs → IsMaximal (Governed before b) bs
+  governed_before = maximal_same (Governed after b) (Governed before b)
+      (λ x a. governed_from after before b (λ s f. ((is_change M m b ok cs are).others s f).0) x)
+      (λ x a. governed_from before after b (λ s f. ((is_change M m b ok cs are).others s f).1) x)
+
+  -- the lines, written
+  pub Closes-change : {W : Type 0} (contents : W → Option (List ℕ)) (T : List Stored) → T ≡ with_choices M b cs
+      → (was has : Option ℕ) → was ≡ match_number (match_of before b) → has ≡ match_number (match_of (routes_of T) b)
+      → (old new : Counted W) (result : Result Unit RunError) → (was ≡ has → Closes contents 1 old new result (printed (Close Done ∷ [])))
+      → (was ≢ has → TellsGoverned contents T b has old new result)
+      → Closes contents 1 old new result (printed (change_lines before after ++ Close Done ∷ []))
+  Closes-change contents T is was has first then old new result same differs =
+      let last = then ∙ ap (λ (U : List Stored). match_number (match_of (routes_of U) b)) is in
       ⊎_elim
-      (λ e. subst (λ ls. Closes contents 1 old new result (printed (ls ++ Close Done ∷ []))) (sym (choices_same M m b ok cs are (sym was ∙ e ∙ now))) (same e))
+      (λ e.
+      let none = no_blocks (Changed before after) (λ x a c. ((changed_by_choices M m b ok cs are x a).0 c).1 (sym first ∙ e ∙ last)) in
+      rw (lines_are [] none) (same e))
       (λ d.
       let (bs, governed, written) = differs d in
-      let lines = choices_differ M m b ok cs are bs (λ q. d (was ∙ q ∙ sym now)) (subst (λ (U : List Stored). IsMaximal (Governed (routes_of U) b) bs) is governed) in
-      subst (λ ls. Closes contents 1 old new result (printed (ls ++ Close Done ∷ []))) (ap (λ (k : Option ℕ). map (change_line k) bs) now ∙ sym lines) written)
-      (same_or_not before after)
-
-plain_if : {A : Type 0} (b : Bool) (x y : A) → cond (b && false) x y ≡ y
-plain_if true x y = refl
-plain_if false x y = refl
+      let blocks = governed_before bs (subst (λ (U : List Stored). IsMaximal (Governed (routes_of U) b) bs) is governed) in
+      rw (lines_are bs ((blocks_of_choices M m b ok cs bs are blocks).0 (λ q. d (first ∙ q ∙ sym last))), ← last) written)
+      (same_or_not was has)
 
 -- a command that is not refused
 pub plain_step : (M : List Stored) (command : Option Command) → is_too_many M command ≡ false → step M command false ≡ accepted M command
-plain_step M command room = rw room (plain_if (may_refuse M command) (closed M Refused) (accepted M command))
+plain_step M command room = rw (room, and_right (may_refuse M command) false refl) refl
 
 -- an `add` that is refused, for want of memory or since eight other hops are stored
 pub refused_step : (M : List Stored) (net : IpNet) (hop : Hop) (pref : ℕ) (why : AddRefused) → IsRefused (choices_at M (block net)) hop why
@@ -146,3 +144,91 @@ refused_step M net hop pref TooMany h = (false, rw h refl)
 -- a table has one flat list
 pub flat_is : (M : List Route) (ps : List Piece) → IsFlat (hop_at M) ps → ps ≡ flat_of (hop_at M)
 flat_is M ps h = (same_flat (hop_at M) (hop_at M) ps (flat_of (hop_at M)) h (search_is_flat (hop_at M))).1 (λ x a. refl)
+
+-- ---- a line tells the hop of every address of its block
+
+module _ (N : List Route) where
+  abbrev line : Block → Reply
+  line b = change_line (hop_at N (first_of b)) b
+
+  abbrev IsLine : Block → Reply → Type 0
+  IsLine b r = (x : Address) → HasAddress b x → r ≡ change_line (hop_at N x) b
+
+  each : (bs : List Block) → ((b : Block) → In b bs → IsLine b (line b)) → AllZip IsLine bs (map line bs)
+  each [] h = tt
+  each (b ∷ bs) h = (h b (inl refl), each bs (λ c i. h c (inr i)))
+
+  these : (bs : List Block) (rs : List Reply) → AllZip IsLine bs rs → rs ≡ map line bs
+  these [] [] h = refl
+  these [] (r ∷ rs) h = absurd h
+  these (b ∷ bs) [] h = absurd h
+  these (b ∷ bs) (r ∷ rs) h =
+      let first = h.0 (first_of b) (has_first b) in
+      let later = these bs rs h.1 in
+      λ i. first i ∷ later i
+
+pub changes_have_one_hop : ChangesHaveOneHop
+unfolding change_lines
+changes_have_one_hop M b cs lines m ok are =
+    let N = routes_of (with_choices M b cs) in
+    let bs = maximal_of (changed (routes_of M) N) in
+    let found = changed_is_maximal (routes_of M) N in
+    let one : (d : Block) → In d bs → (x : Address) → HasAddress d x → hop_at N x ≡ match_number (match_of N b) = λ d i. choices_have_one_hop M m b ok cs are d (Contains-from_In bs d i) in (
+      (λ e. (bs, found, subst (AllZip (IsLine N) bs) (sym e) (each N bs (λ d i x h. ap (λ hop. change_line hop d) (one d i (first_of d) (has_first d) ∙ sym (one d i x h)))))),
+      (λ t. let (ds, most, zip) = t in these N ds lines zip ∙ ap (map (line N)) (maximal_is_unique (Changed (routes_of M) N) ds bs most found)),
+    )
+
+-- ---- the lines paint what has changed
+
+-- the changes that lines tell
+abbrev pub changes_in : List Reply → List Change
+changes_in ls = filter_map change_of ls
+
+abbrev change_at : (Address → Option ℕ) → Block → Change
+change_at h b = record { block = b; number = h (first_of b) }
+
+-- a line of a change, read
+change_read : (o : Option ℕ) (b : Block) → change_of (change_line o b) ≡ Some (record { block = b; number = o })
+change_read (Some number) b = ap (λ c. Some (record { block = c; number = Some number })) (of_network_at b)
+change_read None b = ap (λ c. Some (record { block = c; number = None })) (of_network_at b)
+
+changes_read : (h : Address → Option ℕ) (bs : List Block) → changes_in (map (λ b. change_line (h (first_of b)) b) bs) ≡ map (change_at h) bs
+changes_read h [] = refl
+changes_read h (b ∷ bs) = rw (change_read (h (first_of b)) b) (ap (λ cs. change_at h b ∷ cs) (changes_read h bs))
+
+module _ (h : Address → Option ℕ) (x : Address) (hop : Option ℕ) where
+  -- blocks with one hop paint an address, if it has that hop or lies in one of them
+  paints : (now : Option ℕ) (bs : List Block) → ((b : Block) → In b bs → HasAddress b x → h (first_of b) ≡ hop)
+      → (now ≡ hop) ⊎ ((b : Block) × In b bs × HasAddress b x) → painted_over now (map (change_at h) bs) x ≡ hop
+  paints now [] all (inl e) = e
+  paints now [] all (inr some) = absurd some.1
+  paints now (b ∷ bs) all some = go (has_address b x) refl (λ o h. paints o bs (λ c i k. all c (inr i) k) h)
+    where
+      later : has_address b x ≡ false → (now ≡ hop) ⊎ ((c : Block) × In c (b ∷ bs) × HasAddress c x) → (now ≡ hop) ⊎ ((c : Block) × In c bs × HasAddress c x)
+      later f (inl e) = inl e
+      later f (inr (c, inl same, k)) = let t = test_from_has c x k in let g : has_address c x ≡ false = ap (λ (d : Block). has_address d x) same ∙ f in cc
+      later f (inr (c, inr i, k)) = inr (c, i, k)
+
+      go : (t : Bool) → has_address b x ≡ t
+          → ((o : Option ℕ) → (o ≡ hop) ⊎ ((c : Block) × In c bs × HasAddress c x) → painted_over o (map (change_at h) bs) x ≡ hop)
+          → painted_over (cond t (h (first_of b)) now) (map (change_at h) bs) x ≡ hop
+      go true e more = more (h (first_of b)) (inl (all b (inl refl) (has_from_test b x e)))
+      go false e more = more now (later e some)
+
+module _ (M N : List Route) where
+  -- an address that has changed lies in a block of the change
+  in_changes : (x : Address) → IsAddress x → Changed M N x → (b : Block) × In b (maximal_of (changed M N)) × HasAddress b x
+  in_changes x a d =
+      let decide = λ (y : Address). ⊎_elim (λ e. inr (λ d. d e)) (λ d. inl d) (same_or_not (hop_at M y) (hop_at N y)) in
+      let union = maximal_is_union (Changed M N) decide (maximal_of (changed M N)) (changed_is_maximal M N) in
+      In-from_Any (λ b. HasAddress b x) (maximal_of (changed M N)) ((union.exact x a).0 d)
+
+  -- where all addresses that have changed have one hop, the lines of the change paint each address with its new hop
+  pub change_painted : (one : Option ℕ) → ((b : Block) → In b (maximal_of (changed M N)) → (x : Address) → HasAddress b x → hop_at N x ≡ one)
+      → (x : Address) → IsAddress x → painted_over (hop_at M x) (changes_in (change_lines M N)) x ≡ hop_at N x
+  unfolding change_lines
+  change_painted one all x a =
+      ap (λ cs. painted_over (hop_at M x) cs x) (changes_read (hop_at N) (maximal_of (changed M N)))
+      ∙ paints (hop_at N) x (hop_at N x) (hop_at M x) (maximal_of (changed M N))
+      (λ b i k. all b i (first_of b) (has_first b) ∙ sym (all b i x k))
+      (⊎_elim (λ e. inl e) (λ d. inr (in_changes x a d)) (same_or_not (hop_at M x) (hop_at N x)))

@@ -1,5 +1,5 @@
 -- Changes carried out one after another.
-use Rattle.std.proofs.Common.{◌≡◌, ℕ, ◌+◌, ◌<◌, cond, List, [], ◌∷◌, ◌++◌, length, take, slice_index_or, Option, refl, sym, ap, ◌∙◌, arith}
+use Rattle.std.proofs.Common.{◌≡◌, ℕ, ◌+◌, ◌<◌, Bool, true, false, cond, List, [], ◌∷◌, ◌++◌, length, take, slice_index_or, Option, refl, sym, ap, ◌∙◌, arith}
 use Rattle.std.proofs.lemmas.List.{take_more, map-append}
 use Rattle.ipnet.specs.IpNets.{block}
 use Rattle.ipnet.specs.declared.ip_net.IpNet.{IpNet}
@@ -9,6 +9,11 @@ use Rattle.route_feed.specs.InnerWaiting.{waiting_change, changes_of}
 use Rattle.ipnet_addr.specs.Addresses.{Address}
 use Rattle.ipnet_blocks.specs.Blocks.{has_address}
 use Rattle.route_feed.specs.Streams.{Change, painted_over}
+
+-- one thing either way
+pub either : {A : Type 0} (b : Bool) (x : A) → cond b x x ≡ x
+either true x = refl
+either false x = refl
 
 pub painted-append : (now : Option ℕ) (cs ds : List Change) (x : Address) → painted_over now (cs ++ ds) x ≡ painted_over (painted_over now cs x) ds x
 painted-append now [] ds x = refl

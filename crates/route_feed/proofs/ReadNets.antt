@@ -1,13 +1,11 @@
 -- What a line spells, and what a command's words may be: networks and hops in range.
-use Rattle.std.proofs.Common.{◌≡◌, ℕ, ◌^◌, ◌<◌, List, [], ◌∷◌, map, Option, Some, None, refl, sym, subst, unwrap_or, arith}
+use Rattle.std.proofs.Common.{ℕ, ◌^◌, ◌<◌, List, Option, Some, None, sym, subst, unwrap_or, arith}
 use Rattle.ipnet_blocks.specs.Blocks.{IsBlock}
 use Rattle.ipnet_blocks.proofs.NetworkBlocks.{block_is}
 use Rattle.ipnet.specs.IpNets.{block, family, parts}
 use Rattle.ipnet.specs.declared.ip_net.IpNet.{IpNet}
 use Rattle.ipnet.proofs.Spelled.{read_is_network}
-use Rattle.route_lines.specs.Bytes.{lines}
 use Rattle.route_lines.specs.InnerPhrase.{Gives}
-use Rattle.route_lines.specs.Lines.{line_of, lines_in}
 use Rattle.route_lines.specs.Spelled.{command_of}
 use Rattle.route_lines.specs.Texts.{IsCommand}
 use Rattle.route_lines.specs.Words as word
@@ -19,10 +17,7 @@ use Rattle.route_choices.specs.Hops.{IsHop}
 use Rattle.route_choices.specs.declared.hop.Hop.{Hop}
 use Rattle.route_choices.specs.declared.hop.Hop.TheVariants.{Number, Drop}
 use Rattle.route_laws.proofs.NetworksAt.{of_network_at}
-use Rattle.route_feed.specs.Lines.{command_in}
 use Rattle.route_feed.specs.Laws.{IsInRange}
-use Rattle.route_feed.specs.Output.{whole_commands}
-use Rattle.route_feed.proofs.ReadLines.{of_commands, piece_spells}
 
 pub net_is_block : (text : List ℕ) (net : IpNet) → word.IsNet text net → IsBlock (block net)
 net_is_block text net h =
@@ -41,25 +36,10 @@ preferred_in_range : (text : List ℕ) (hop : Hop) (pref : ℕ) → word.IsPrefe
 preferred_in_range text hop pref h = (let r = optional_in_range text hop h.0 h.1 in (r.0, omega (arith, h.2, r.1)))
 
 spelled_in_range : (text : List ℕ) (o : Option Command) → Gives IsCommand text o → IsInRange o
-spelled_in_range text None h = tt
 spelled_in_range text (Some (C.Add net hop pref)) h = let p = preferred_in_range h.phrase.back hop pref h.phrase.second in (net_is_block h.phrase.front net h.phrase.first, p.0, p.1)
 spelled_in_range text (Some (C.Del net hop)) h = net_is_block h.phrase.front net h.phrase.first
-spelled_in_range text (Some (C.Get net)) h = tt
-spelled_in_range text (Some (C.Cover net)) h = tt
-spelled_in_range text (Some (C.List net)) h = tt
 spelled_in_range text (Some (C.All net)) h = net_is_block h.rest net h.phrase
-spelled_in_range text (Some (C.PageFrom net limit)) h = tt
-spelled_in_range text (Some (C.PageAfter net limit)) h = tt
-spelled_in_range text (Some (C.Own number)) h = tt
-spelled_in_range text (Some C.Count) h = tt
-spelled_in_range text (Some C.Flat) h = tt
+spelled_in_range text other h = tt
 
 pub piece_in_range : (piece : List ℕ) → IsInRange (command_of piece)
 piece_in_range piece = spelled_in_range piece (command_of piece) (command_found piece)
-
-piece_commands : (pieces : List (List ℕ)) → map command_in (map line_of pieces) ≡ map command_of pieces
-piece_commands [] = refl
-piece_commands (p ∷ ps) = λ i. piece_spells of_commands p i ∷ piece_commands ps i
-
-pub commands_in : (bytes : List ℕ) → map command_in (lines_in bytes) ≡ whole_commands bytes
-commands_in bytes = piece_commands (lines bytes)

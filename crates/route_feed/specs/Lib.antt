@@ -12,5 +12,4 @@ pub mod Shortens
 pub mod Laws
 pub mod InnerReplies
 pub mod InnerWaiting
-pub mod InnerFollowing
 pub mod InnerReaching

@@ -102,7 +102,7 @@ fn follow_all<R: Read, W: Write>(
     writer: &mut Counted<W>,
 ) -> Result<Follower, RunError>
     requires { CanRead reader.old }
-    ensures reaches { Reaches R.remaining reader.old reader.new writer.old writer.new result }
+    ensures reaches { Reaches R.remaining W.contents reader.old reader.new writer.old writer.new result }
     ensures reads { reader.new.reads ≤ reader.old.reads + 2 ^ 62 }
 {
     let mut buf = vec![in alloc; 0; INPUT_BUFFER]?;

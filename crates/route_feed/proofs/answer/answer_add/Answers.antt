@@ -18,7 +18,7 @@ returns-in-Ok g c =
     let same = plain_step M (Some (Add c.args.net c.args.hop c.args.pref)) e.room in
     record {
       refused = false;
-      reply = rw same (Closes-change g.W.Write.contents M c.add_is_leaf.new.self e.tables.0 b new.0 cs new.1 e.networks c.in-Ok.before c.in-Ok.after e.hops.0 e.hops.1 c.args.writer.now c.tell_change.new.writer c.tell_change.result c.tell_change.ensures.same c.tell_change.ensures.differs);
+      reply = rw same (Closes-change M e.tables.0 b new.0 cs new.1 g.W.Write.contents c.add_is_leaf.new.self e.networks c.in-Ok.before c.in-Ok.after e.hops.0 e.hops.1 c.args.writer.now c.tell_change.new.writer c.tell_change.result c.tell_change.ensures.same c.tell_change.ensures.differs);
       table = rw same e.networks;
     }
 

@@ -17,7 +17,7 @@ returns-in-Some g c =
     let are = without_are (choices_at M b) (at_are M e.tables.0 b) c.args.hop in
     record {
       refused = false;
-      reply = rw held (Closes-change g.W.Write.contents M c.del.new.self e.tables.0 b (held_is M e.tables.0 b c.args.hop held) cs are e.networks c.in-Some.before c.in-Some.after e.hops.0 e.hops.1 c.args.writer.now c.tell_change.new.writer c.tell_change.result c.tell_change.ensures.same c.tell_change.ensures.differs);
+      reply = rw held (Closes-change M e.tables.0 b (held_is M e.tables.0 b c.args.hop held) cs are g.W.Write.contents c.del.new.self e.networks c.in-Some.before c.in-Some.after e.hops.0 e.hops.1 c.args.writer.now c.tell_change.new.writer c.tell_change.result c.tell_change.ensures.same c.tell_change.ensures.differs);
       table = rw held e.networks;
     }
 

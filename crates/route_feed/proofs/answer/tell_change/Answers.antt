@@ -1,13 +1,8 @@
-use Rattle.std.proofs.Common.{◌∷◌, [], ◌∙◌, ap, subst, sym}
+use Rattle.std.proofs.Common.{◌∷◌, [], ◌∙◌, ap, sym}
 use Rattle.ipnet.specs.IpNets.{block, network_at}
-use Rattle.route_lines.specs.declared.reply.Closing.TheVariants.{Done}
-use Rattle.route_lines.specs.declared.reply.Reply.{Reply}
-use Rattle.route_lines.specs.declared.reply.Reply.TheVariants.{Close}
 use Rattle.route_laws.proofs.NetworksAt.{of_network_at}
 use Rattle.route_feed.specs.InnerReplies.{GovernsAll}
-use Rattle.route_feed.specs.Replies.{printed}
 use Rattle.route_feed.specs.Steps.{change_line}
-use Rattle.route_program.specs.Devices.{Closes}
 use Rattle.route_feed.proofs.answer.tell_change.Goals.{then-is_leaf-via-then-is_leaf, then-is_leaf-via-else-is_leaf+then-is_leaf-2}
 use Rattle.route_feed.proofs.answer.tell_change.Goals as goal
 
@@ -22,4 +17,4 @@ returns-then-is_leaf-clause-differs g c = λ _.
       | then-is_leaf-via-then-is_leaf w ↦ c.requires.leaf w.if-is_leaf.true
       | then-is_leaf-via-else-is_leaf+then-is_leaf-2 w ↦ w.is_leaf.ensures.governed w.if-is_leaf-2.true
     ] in
-    (block c.args.net.now ∷ [], alone, subst (λ (l : Reply). Closes g.W.Write.contents 1 c.args.writer.now c.reply.new.writer c.reply.result (printed (l ∷ Close Done ∷ []))) line c.reply.ensures)
+    (block c.args.net.now ∷ [], alone, rw (← line) c.reply.ensures)

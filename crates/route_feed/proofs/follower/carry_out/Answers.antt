@@ -1,4 +1,4 @@
-use Rattle.std.proofs.Common.{◌<◌, ◌∙◌, ap, cond, length, sym, OnErr, Result, Ok, Err, arith}
+use Rattle.std.proofs.Common.{◌<◌, ◌∙◌, ap, cond, length, sym, arith}
 use Rattle.route_table.proofs.Outcomes.{when_err}
 use Rattle.std.proofs.lemmas.List.{take-map}
 use Rattle.ipnet.specs.IpNets.{block}

@@ -1,7 +1,7 @@
 use Rattle.std.proofs.Common.{arith}
 use Rattle.std.proofs.lemmas.Result.{err_from_is_err_and}
 use Rattle.route_laws.specs.LeastTables.{routes_for}
-use Rattle.route_feed.proofs.Shortened.{shorten_stopped, shorten_wants, shorten_ended, shorten_known}
+use Rattle.route_feed.proofs.FollowThen.{shorten_stopped, shorten_wants, shorten_ended, shorten_known}
 use Rattle.route_feed.proofs.runs.shorten.Goals as goal
 
 pub returns-in_err-follower-clause-ends : goal.returns-in_err-follower-clause-ends

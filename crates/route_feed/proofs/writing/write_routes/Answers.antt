@@ -1,38 +1,25 @@
-use Rattle.std.proofs.Common.{◌∙◌, ap, subst}
-use Rattle.std.proofs.lemmas.List.Elements.{All-head, All-tail}
+use Rattle.std.proofs.Common.{◌∙◌, ap}
 use Rattle.std.proofs.lemmas.Result.{err_from_is_err_and}
-use Rattle.ipnet.specs.IpNets.{family, parts}
-use Rattle.ipnet.specs.declared.ip_net.IpNet.{IpNet}
-use Rattle.ipnet_blocks.specs.Networks.{IsTruncated}
-use Rattle.route_choices.specs.declared.hop.Hop.{Hop}
-use Rattle.route_table.proofs.BetweenSteps.{network_is}
-use Rattle.route_feed.specs.Lines.{HaveNoHostBits}
-use Rattle.route_feed.proofs.WriteRoutes.{add_bytes, next_add}
+use Rattle.route_feed.proofs.Rebuilt.{add_bytes, next_add}
 use Rattle.route_program.proofs.WriteLines.{Told-all, Told-more, Told-torn}
 use Rattle.route_program.proofs.Written.{Delivers-after}
 use Rattle.route_feed.proofs.writing.write_routes.Goals as goal
 
 pub print_to-requires : goal.print_to-requires
-print_to-requires g c =
-    let cut = subst HaveNoHostBits c.in-Some.ensures.steps c.loop-net.invariant.1 in
-    network_is c.in-Some.net (All-head (λ r. IsTruncated (family r.0) (parts r.0)) (c.in-Some.net, c.in-Some.hop) c.next.new.self cut)
+print_to-requires g c = (next_add _ _ _ _ c.in-Some.ensures.steps c.loop-net.invariant.1).2
 
 pub loop-net-preserved : goal.loop-net-preserved
 loop-net-preserved g c =
-    let route : IpNet × Hop = (c.in-Some.net, c.in-Some.hop) in
-    let cut = subst HaveNoHostBits c.in-Some.ensures.steps c.loop-net.invariant.1 in
-    let line = ap add_bytes c.in-Some.ensures.steps ∙ next_add route c.next.new.self (All-head (λ r. IsTruncated (family r.0) (parts r.0)) route c.next.new.self cut) in (
-      Told-more g.W.Write.contents add_bytes c.args.writer.now c.loop-net.writer c.write_piece.new.writer _ _ c.next.new.self _ _ c.loop-net.invariant.0 line (c.as_slice.ensures.value ∙ c.print_to.ensures.text) c.in_ok-write_piece.ensures,
-      All-tail (λ r. IsTruncated (family r.0) (parts r.0)) route c.next.new.self cut,
+    let next = next_add _ _ _ _ c.in-Some.ensures.steps c.loop-net.invariant.1 in (
+      Told-more g.W.Write.contents add_bytes c.args.writer.now c.loop-net.writer c.write_piece.new.writer _ _ c.next.new.self _ _ c.loop-net.invariant.0 next.0 (c.as_slice.ensures.value ∙ c.print_to.ensures.text) c.in_ok-write_piece.ensures,
+      next.1,
     )
 
 pub returns-in_err-write_piece : goal.returns-in_err-write_piece
 returns-in_err-write_piece g c =
     let p = err_from_is_err_and c.from_residual.result c.from_residual.ensures.1 in
-    let route : IpNet × Hop = (c.in-Some.net, c.in-Some.hop) in
-    let cut = subst HaveNoHostBits c.in-Some.ensures.steps c.loop-net.invariant.1 in
-    let line = ap add_bytes c.in-Some.ensures.steps ∙ next_add route c.next.new.self (All-head (λ r. IsTruncated (family r.0) (parts r.0)) route c.next.new.self cut) in
-    rw (p.1, p.2) (Told-torn g.W.Write.contents add_bytes c.args.writer.now c.loop-net.writer c.write_piece.new.writer _ _ c.next.new.self _ _ c.loop-net.invariant.0 line (c.as_slice.ensures.value ∙ c.print_to.ensures.text) _ c.in_err-write_piece.ensures)
+    let next = next_add _ _ _ _ c.in-Some.ensures.steps c.loop-net.invariant.1 in
+    rw (p.1, p.2) (Told-torn g.W.Write.contents add_bytes c.args.writer.now c.loop-net.writer c.write_piece.new.writer _ _ c.next.new.self _ _ c.loop-net.invariant.0 next.0 (c.as_slice.ensures.value ∙ c.print_to.ensures.text) _ c.in_err-write_piece.ensures)
 
 pub returns : goal.returns
 returns g c =

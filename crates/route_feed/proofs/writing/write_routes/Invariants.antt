@@ -1,5 +1,5 @@
 use Rattle.route_feed.specs.Lines.{HaveNoHostBits}
-use Rattle.route_feed.proofs.WriteRoutes.{add_bytes}
+use Rattle.route_feed.proofs.Rebuilt.{add_bytes}
 use Rattle.route_program.proofs.WriteLines.{Told}
 use Rattle.route_feed.proofs.writing.write_routes.Given as goal
 
