@@ -8,7 +8,7 @@ use Rattle.route_lines.specs.Lines.{answers, fed_answer, fed, fed_all, kept_of, 
 use Rattle.route_lines.proofs.Cutting.{new_answers, quiet, new_line}
 use Rattle.memchr.specs.Find.{Nowhere, Passes, is_byte}
 use Rattle.std.proofs.lemmas.List.Elements.{All-from_get_or}
-use Rattle.std.proofs.lemmas.List.{take_rest}
+use Rattle.std.proofs.lemmas.List.{take_more, take_rest}
 use Rattle.route_lines.specs.declared.cutter.Line.{Line}
 use Rattle.route_program.specs.declared.counted.Counted.{Counted}
 use Rattle.route_program.specs.declared.error.RunError.{RunError}
@@ -25,17 +25,16 @@ answers-append = made-append fed fed_all (λ s. refl) (λ s e es. refl) (λ k b.
 pub none_found : (xs : List ℕ) → Nowhere (Passes (is_byte 10) xs) 0 (length xs) → All (λ c. c ≢ 10) xs
 none_found xs none = All-from_get_or (λ c. c ≢ 10) xs 0 (λ k below e. none k (omega arith) below (eq-eqb _ 10 e))
 
--- a text after some of its bytes, at the next line end
+-- a text after some of its bytes, and after n more
+pub after_more : (all front left : List ℕ) (n : ℕ) → all ≡ front ++ left → all ≡ (front ++ take n left) ++ take (length left - n) (drop n left)
+after_more all front left n is = is ∙ simp (append_assoc, take_rest, take-append-drop)
+
+-- at the next line end
 pub at_end : (all front left : List ℕ) (i : ℕ) → all ≡ front ++ left → i < length left → Passes (is_byte 10) left i
     → all ≡ (front ++ (take i left ++ 10 ∷ [])) ++ take (length left - (i + 1)) (drop (i + 1) left)
 at_end all front left i is h e =
-    let ends : left ≡ (take i left ++ 10 ∷ []) ++ drop (suc i) left =
-    sym (take-append-drop i left) ∙ ap (λ l. take i left ++ l) (drop-cons left i 0 h ∙ ap (λ b. b ∷ drop (suc i) left) (eqb-true (get_or left i 0) 10 e))
-    ∙ sym (append_assoc (take i left) (10 ∷ []) (drop (suc i) left)) in
-    let next : suc i ≡ i + 1 = omega arith in
-    is ∙ ap (λ l. front ++ l) ends ∙ sym (append_assoc front (take i left ++ 10 ∷ []) (drop (suc i) left))
-    ∙ ap (λ n. (front ++ (take i left ++ 10 ∷ [])) ++ drop n left) next
-    ∙ ap (λ l. (front ++ (take i left ++ 10 ∷ [])) ++ l) (sym (take_rest left (i + 1)))
+    after_more all front left (i + 1) is
+    ∙ ap (λ l. (front ++ l) ++ take (length left - (i + 1)) (drop (i + 1) left)) (take_more left i 0 h ∙ ap (λ b. take i left ++ b ∷ []) (eqb-true (get_or left i 0) 10 e))
 
 module _ {S W : Type 0} (takes : S → Line → Counted W → Result Unit RunError → S → Counted W → Type 0) where
   TakesAll-one : (a b : S) (l : Line) (u v : Counted W) (r : Result Unit RunError) → takes a l u r b v → TakesAll takes a (l ∷ []) u r b v

@@ -1,12 +1,9 @@
 use Rattle.std.proofs.Common.{◌≡◌, ℕ, ◌-◌, true, false, not, ◌&&◌, ◌||◌, eqb, nat_lt, arith, List, ◌++◌, length, take, drop, sym, ap, ◌∙◌, append_assoc, take-append-drop, ne_eqb}
 use Rattle.std.proofs.lemmas.List.{length-take-le, take_rest}
 use Rattle.std.proofs.lemmas.Bool.Decides.{nat_tests}
+use Rattle.route_program.proofs.SinkRun.{after_more}
 use Rattle.route_program.proofs.Written.{Written-trans, has_some}
 use Rattle.route_program.proofs.writing.write_piece.Goals as goal
-
-moves_front : (all done rest : List ℕ) (n : ℕ) → all ≡ done ++ rest → all ≡ (done ++ take n rest) ++ take (length rest - n) (drop n rest)
-moves_front all done rest n e =
-    e ∙ ap (λ l. done ++ l) (sym (take-append-drop n rest)) ∙ sym (append_assoc done (take n rest) (drop n rest)) ∙ ap (λ l. (done ++ take n rest) ++ l) (sym (take_rest rest n))
 
 pub loop-left-preserved : goal.loop-left-preserved
 loop-left-preserved g c =
@@ -17,7 +14,7 @@ loop-left-preserved g c =
     let some : nat_lt 0 n ≡ true = grind (arith, nat_tests) in
     let has = has_some (take n left) (omega (arith, length-take-le n left (omega (arith, c.in-Ok.ensures.bound)))) in (
       done ++ take n left,
-      moves_front _ done left n split,
+      after_more _ done left n split,
       Written-trans g.W.Write.contents _ c.loop-left.writer c.write.new.self done (take n left) written (record {
         appended = c.in-Ok.ensures.bytes;
         faults = rw took at c.in-Ok.ensures.faults;
