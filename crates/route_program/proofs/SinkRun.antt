@@ -83,7 +83,7 @@ pub record Went {S R W : Type 0} (takes : S → Line → Counted W → Result Un
   pub bytes : List ℕ
   pub read : Consumes (remaining from.device) (remaining to.device) bytes
   pub few : to.reads ≤ from.reads + length bytes + more
-  pub taken : TakesAll takes a (answers (kept_of []) bytes) old result b new
+  pub taken : TakesAll takes a (lines_in bytes) old result b new
   pub kept : OnOk result (cutter ≡ fed_all (kept_of []) bytes)
 
 module _ {S R W : Type 0} (takes : S → Line → Counted W → Result Unit RunError → S → Counted W → Type 0) (remaining : R → Option (List ℕ)) where
@@ -98,10 +98,6 @@ module _ {S R W : Type 0} (takes : S → Line → Counted W → Result Unit RunE
     bytes = x.bytes ++ piece;
     read = Consumes-trans _ _ _ x.bytes piece x.read read;
     few = let f = x.few in omega (arith, f, few, length-append x.bytes piece);
-    taken = takes_more takes a b c (kept_of []) k x.bytes piece u v w result x.taken x.kept taken;
+    taken = rw (← new_answers (x.bytes ++ piece)) (takes_more takes a b c (kept_of []) k x.bytes piece u v w result (rw new_answers x.taken) x.kept taken);
     kept = on_ok_weaker result (λ e. e ∙ ap (λ n. fed_all n piece) x.kept ∙ sym (fed_all-append (kept_of []) x.bytes piece)) fed;
   }
-
-  -- the lines that they end are those of the bytes
-  pub went_lines : (more : ℕ) (a b : S) (p q : Counted R) (u v : Counted W) (k : Kept) (result : Result Unit RunError) (x : Went takes remaining more a p u result b q v k) → TakesAll takes a (lines_in x.bytes) u result b v
-  went_lines more a b p q u v k result x = subst (λ ls. TakesAll takes a ls u result b v) (new_answers x.bytes) x.taken
