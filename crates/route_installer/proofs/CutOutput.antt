@@ -33,7 +33,8 @@ use Rattle.route_installer.proofs.NotesInTurn.{events-append, haves-append, kept
 -- ---- the notes of a log
 
 -- a text that spells a note is the reply line of it, or none
-line_of_note : (o : Option Reply) (text : List ℕ) (note : FibInput) → note_of text ≡ Some note → reply_of text ≡ o → o ≡ reply_of_note note
+line_of_note : (o : Option Reply) (text : List ℕ) (note : FibInput) → note_of text ≡ Some note → reply_of text ≡ o
+    → o ≡ reply_of_note note
 line_of_note None text (N.Reply r) e f = sym f ∙ (replies text r).0 e
 line_of_note None text note e f = refl
 line_of_note (Some r) text note e f = let other = sym e ∙ (replies text r).1 f in grind arith
@@ -57,7 +58,8 @@ some_note (Some r) text e some = subst IsSome (sym ((replies text r).1 e)) refl
 
 pub beginnings_are_notes : BeginningsAreNotes
 beginnings_are_notes bytes front back refusals few e =
-    All-weaker (λ piece. IsSome (reply_of piece)) (λ piece. IsSome (note_of piece)) (λ text. some_note (reply_of text) text refl) (lines front) (beginnings_are_replies bytes front back refusals few e)
+    All-weaker (λ piece. IsSome (reply_of piece)) (λ piece. IsSome (note_of piece)) (λ text. some_note (reply_of text) text refl)
+    (lines front) (beginnings_are_replies bytes front back refusals few e)
 
 pub output_agrees : OutputAgrees
 output_agrees bytes refusals front back log ns e are same has x a =
@@ -94,7 +96,9 @@ no_ok_in (u ∷ us) e (inr i) = no_ok_in us e i
 ok_keeps : (es : List Event) (s : Installer) → In U.Done (update_lines s es) → Installer.kept (after_events s es) ≡ true
 ok_keeps [] s i = absurd i
 ok_keeps (e ∷ es) s i = ⊎_elim
-    (λ j. kept_stays es (after_event s e) (cond_both (after_event s e).kept (map operation_line (gives s e) ++ U.Done ∷ []) [] (λ us. In U.Done us → (after_event s e).kept ≡ true) (λ k l. k) (λ k l. absurd l) j))
+    (λ j. kept_stays es (after_event s e)
+    (cond_both (after_event s e).kept (map operation_line (gives s e) ++ U.Done ∷ []) []
+    (λ us. In U.Done us → (after_event s e).kept ≡ true) (λ k l. k) (λ k l. absurd l) j))
     (ok_keeps es (after_event s e))
     (In-cases U.Done (event_lines s e) (update_lines (after_event s e) es) i)
 
@@ -137,12 +141,15 @@ not_empty us t tail e = grind (arith, ap length e, length-append us (t ∷ tail)
 note_open : (s : Installing) (n : Noted) (us : List FibUpdate) (t : FibUpdate) (tail : List FibUpdate) → update_lines s.tables (event_of s n.note n.table) ≡ us ++ t ∷ tail → oks us ≡ 0
 note_open s n us t tail h = ⊎_elim
     (λ none. absurd (not_empty us t tail (sym (ap (update_lines s.tables) none) ∙ h)))
-    (λ q. cond_both (after_event s.tables q.0).kept (map operation_line (gives s.tables q.0) ++ U.Done ∷ []) [] (λ l. l ++ [] ≡ us ++ t ∷ tail → oks us ≡ 0)
-    (λ k e. open_lines (gives s.tables q.0) us t tail (sym (append-nil (map operation_line (gives s.tables q.0) ++ U.Done ∷ [])) ∙ e))
+    (λ q. cond_both (after_event s.tables q.0).kept (map operation_line (gives s.tables q.0) ++ U.Done ∷ []) []
+    (λ l. l ++ [] ≡ us ++ t ∷ tail → oks us ≡ 0)
+    (λ k e. open_lines (gives s.tables q.0) us t tail
+    (sym (append-nil (map operation_line (gives s.tables q.0) ++ U.Done ∷ [])) ∙ e))
     (λ k e. absurd (not_empty us t tail e)) (sym (ap (update_lines s.tables) q.1) ∙ h))
     (one_event s n.note n.table)
 
-where_cut : (ns : List Noted) (s : Installing) (us rest : List FibUpdate) → us ++ rest ≡ update_lines s.tables (events s ns) → Cut s ns us
+where_cut : (ns : List Noted) (s : Installing) (us rest : List FibUpdate) → us ++ rest ≡ update_lines s.tables (events s ns)
+    → Cut s ns us
 where_cut [] s [] rest e = record { before = []; later = []; is = refl; begun = []; lines = refl; open_batch = refl; part = inl refl }
 where_cut [] s (u ∷ us) rest e = absurd (cc)
 where_cut (n ∷ ns) s us rest e =
@@ -155,11 +162,13 @@ where_cut (n ∷ ns) s us rest e =
       later = c.later;
       is = ap (λ l. n ∷ l) c.is;
       begun = c.begun;
-      lines = h.1 ∙ ap (λ l. update_lines s.tables es ++ l) c.lines ∙ rw (lines-append s.tables es (events at c.before), append_assoc);
+      lines = h.1 ∙ ap (λ l. update_lines s.tables es ++ l) c.lines
+          ∙ rw (lines-append s.tables es (events at c.before), append_assoc);
       open_batch = c.open_batch;
       part = c.part;
     })
-    (begins us rest (update_lines s.tables es) (update_lines at.tables (events at ns)) (e ∙ lines-append s.tables es (events at ns)))
+    (begins us rest (update_lines s.tables es) (update_lines at.tables (events at ns))
+    (e ∙ lines-append s.tables es (events at ns)))
 
 -- ---- what a beginning makes
 
@@ -168,7 +177,9 @@ closings-append [] ms = omega arith
 closings-append (l ∷ ls) ms = grind (arith, closings-append ls ms)
 
 -- a note ends one reply at most
-next_closings : (ns : List Noted) (n : Noted) → (closings (replies_of (ns ++ n ∷ [])) ≡ closings (replies_of ns)) ⊎ (closings (replies_of (ns ++ n ∷ [])) ≡ suc (closings (replies_of ns)))
+next_closings : (ns : List Noted) (n : Noted)
+    → (closings (replies_of (ns ++ n ∷ [])) ≡ closings (replies_of ns))
+    ⊎ (closings (replies_of (ns ++ n ∷ [])) ≡ suc (closings (replies_of ns)))
 next_closings ns n = grind (arith, closings-append, replies_of-append)
 
 module _ (bytes : List ℕ) (refusals : List Bool) where
@@ -198,8 +209,11 @@ module _ (bytes : List ℕ) (refusals : List Bool) where
     made os e x =
         let H = haves first_events in
         let G = given start first_events in
-        let haves_are : haves (events begin ns) ≡ H = ap haves split ∙ haves-append first_events (events at c.later) [] ∙ no_haves H (events at c.later) (after_events start first_events) kept may_both.1 in
-        let all : filter is_operation us ≡ map operation_line (G ++ os) = ap (filter is_operation) c.lines ∙ rw (filter-append, lines_operations, e, map-append) in
+        let haves_are : haves (events begin ns) ≡ H =
+        ap haves split ∙ haves-append first_events (events at c.later) []
+        ∙ no_haves H (events at c.later) (after_events start first_events) kept may_both.1 in
+        let all : filter is_operation us ≡ map operation_line (G ++ os) =
+        ap (filter is_operation) c.lines ∙ rw (filter-append, lines_operations, e, map-append) in
         ap (λ M. hop_at (carried_out M us) x) haves_are
         ∙ ap (λ M. hop_at M x) (only_operations H us)
         ∙ ap (λ l. hop_at (carried_out H l) x) all

@@ -57,7 +57,9 @@ output_is_given ns = lines_operations start (events begin ns)
 
 -- no batch, or one
 abbrev NoneOrBatch : Installer → List Event → Type 0
-NoneOrBatch s es = ((batches s es ≡ 0) × (update_lines s es ≡ [])) ⊎ ((batches s es ≡ 1) × (update_lines s es ≡ map operation_line (given s es) ++ U.Done ∷ []))
+NoneOrBatch s es =
+    ((batches s es ≡ 0) × (update_lines s es ≡ []))
+    ⊎ ((batches s es ≡ 1) × (update_lines s es ≡ map operation_line (given s es) ++ U.Done ∷ []))
 
 one_batch : (s : Installer) (e : Event) → NoneOrBatch s (e ∷ [])
 one_batch s e = grind (arith, append-nil)
@@ -70,7 +72,8 @@ notes_give_batches ns n =
     let more = ap (batches start) (whole ns n) ∙ batches-append start before these in
     let lines = ap (update_lines start) (whole ns n) ∙ lines-append start before these in
     let batch : NoneOrBatch (after_events start before) these =
-    ⊎_elim (λ none. rw none (inl (refl, refl))) (λ t. rw t.1 (one_batch (after_events start before) t.0)) (one_event at n.note n.table) in
+    ⊎_elim (λ none. rw none (inl (refl, refl))) (λ t. rw t.1 (one_batch (after_events start before) t.0))
+    (one_event at n.note n.table) in
     ⊎_elim
     (λ none. inl ((let same : batches_given (ns ++ n ∷ []) ≡ batches_given ns = omega (arith, more, none.0) in same), lines ∙ ap (λ us. lines_given ns ++ us) none.1 ∙ append-nil (lines_given ns)))
     (λ one. inr (
@@ -97,11 +100,16 @@ plain_with M r = simp (filter_map_swap, map-append)
 plain_without : (M : List Route) (b : Block) → without_block (map plain M) b ≡ map plain (without_block M b)
 plain_without M b = filter_map_swap plain (λ (s : Route). not (same_block s.block b)) M
 
-same_carried : (os : List Operation) (M N : List Route) → map plain M ≡ map plain N → map plain (carried_out M (map operation_line os)) ≡ map plain (after_all N os)
+same_carried : (os : List Operation) (M N : List Route) → map plain M ≡ map plain N
+    → map plain (carried_out M (map operation_line os)) ≡ map plain (after_all N os)
 same_carried [] M N e = e
 same_carried (Install r ∷ os) M N e = same_carried os _ _
-    (sym (plain_with M (route_of (network_at r.block) r.hop default_preference)) ∙ (λ i. with_route (e i) (record { block = of_network_at r.block i; hop = r.hop; pref = default_preference })) ∙ plain_with N r)
-same_carried (Remove b ∷ os) M N e = same_carried os _ _ (sym (plain_without M (block (network_at b))) ∙ (λ i. without_block (e i) (of_network_at b i)) ∙ plain_without N b)
+    (sym (plain_with M (route_of (network_at r.block) r.hop default_preference))
+    ∙ (λ i. with_route (e i) (record { block = of_network_at r.block i; hop = r.hop; pref = default_preference }))
+    ∙ plain_with N r)
+same_carried (Remove b ∷ os) M N e =
+    same_carried os _ _
+    (sym (plain_without M (block (network_at b))) ∙ (λ i. without_block (e i) (of_network_at b i)) ∙ plain_without N b)
 
 -- the lines of operations make the hops that the operations make
 pub carried_hops : (M : List Route) (os : List Operation) (x : Address) → hop_at (carried_out M (map operation_line os)) x ≡ hop_at (after_all M os) x
@@ -121,7 +129,8 @@ first_carried : (M : List Route) (es : List Event) (us later : List FibUpdate) �
 first_carried M es us later e x =
     let all = sym (filter-append is_operation us later) ∙ ap (filter is_operation) (sym e) ∙ lines_operations start es in
     ap (λ T. hop_at T x) (only_operations M us)
-    ∙ ap (λ vs. hop_at (carried_out M vs) x) (first_of_map operation_line (given start es) (filter is_operation us) (filter is_operation later) all)
+    ∙ ap (λ vs. hop_at (carried_out M vs) x)
+    (first_of_map operation_line (given start es) (filter is_operation us) (filter is_operation later) all)
     ∙ carried_hops M (take (length (filter is_operation us)) (given start es)) x
 
 -- ---- lines that spell what they print
@@ -135,9 +144,11 @@ updates_read (u ∷ us) s =
     let text = update_text u in
     let first = All-head IsSpelled u us s in
     ap updates_in (append_assoc text (10 ∷ []) (printed_updates us))
-    ∙ ap (filter_map update_of) (first_line text (printed_updates us) (recursion_from_All (λ c. c ≢ 10) text (updates.clean text u first)))
+    ∙ ap (filter_map update_of)
+    (first_line text (printed_updates us) (recursion_from_All (λ c. c ≢ 10) text (updates.clean text u first)))
     ∙ filter_map-append update_of (text ∷ []) (lines (printed_updates us))
-    ∙ ap (λ o. filter_map (λ (p : Option FibUpdate). p) (o ∷ []) ++ updates_in (printed_updates us)) (read_is of_updates text u first)
+    ∙ ap (λ o. filter_map (λ (p : Option FibUpdate). p) (o ∷ []) ++ updates_in (printed_updates us))
+    (read_is of_updates text u first)
     ∙ ap (λ vs. u ∷ vs) (updates_read us (All-tail IsSpelled u us s))
 
 abbrev GivesSpelled : Operation → Type 0
@@ -146,20 +157,29 @@ GivesSpelled o = IsSpelled (operation_line o)
 between_spelled : (M N : List Route) → IsTable M → IsTable N → All GivesSpelled (between M N)
 between_spelled M N m n =
     All-append GivesSpelled (map Install (reverse (missing M N))) (map (λ (r : Route). Remove r.block) (surplus M N))
-    (All-map GivesSpelled Install (reverse (missing M N)) (All-from_In (λ r. GivesSpelled (Install r)) (reverse (missing M N)) (λ r i.
+    (All-map GivesSpelled Install (reverse (missing M N))
+    (All-from_In (λ r. GivesSpelled (Install r)) (reverse (missing M N)) (λ r i.
     let k = (In-from_filter _ N r (reverse_In (missing M N) r i)).0 in
-    prints (operation_line (Install r)) (is_cut r.block) (net_reads r.block (In-from_All (λ (s : Route). IsBlock s.block) N n.blocks r k), word_hop r.hop (In-from_All (λ (s : Route). IsHop s.hop) N n.hops r k)))))
-    (All-map GivesSpelled (λ (r : Route). Remove r.block) (surplus M N) (All-weaker (λ (r : Route). IsBlock r.block) (λ (r : Route). GivesSpelled (Remove r.block))
-    (λ r b. prints (operation_line (Remove r.block)) (is_cut r.block) (net_reads r.block b)) (surplus M N) (All-filter _ (λ (r : Route). IsBlock r.block) M m.blocks)))
+    prints (operation_line (Install r)) (is_cut r.block) (
+      net_reads r.block (In-from_All (λ (s : Route). IsBlock s.block) N n.blocks r k),
+      word_hop r.hop (In-from_All (λ (s : Route). IsHop s.hop) N n.hops r k),
+    ))))
+    (All-map GivesSpelled (λ (r : Route). Remove r.block) (surplus M N)
+    (All-weaker (λ (r : Route). IsBlock r.block) (λ (r : Route). GivesSpelled (Remove r.block))
+    (λ r b. prints (operation_line (Remove r.block)) (is_cut r.block) (net_reads r.block b)) (surplus M N)
+    (All-filter _ (λ (r : Route). IsBlock r.block) M m.blocks)))
 
 gives_spelled : (s : Installer) (e : Event) → IsTable s.installed → MayCome s e → All GivesSpelled (gives s e)
 gives_spelled s (Have r) m c = All-nil GivesSpelled
-gives_spelled s (Told rs N) m c = cond_both s.kept (between s.installed N) [] (All GivesSpelled) (λ k. between_spelled s.installed N m (c.1 k).hops.table) (λ k. All-nil GivesSpelled)
+gives_spelled s (Told rs N) m c =
+    cond_both s.kept (between s.installed N) [] (All GivesSpelled) (λ k. between_spelled s.installed N m (c.1 k).hops.table)
+    (λ k. All-nil GivesSpelled)
 gives_spelled s (Sync N) m c = between_spelled s.installed N m c.0.hops.table
 
 event_spelled : (s : Installer) (e : Event) → IsTable s.installed → MayCome s e → All IsSpelled (event_lines s e)
 event_spelled s e m c = cond_both (after_event s e).kept (map operation_line (gives s e) ++ U.Done ∷ []) [] (All IsSpelled)
-    (λ k. All-push IsSpelled (map operation_line (gives s e)) U.Done (All-map IsSpelled operation_line (gives s e) (gives_spelled s e m c)) refl)
+    (λ k. All-push IsSpelled (map operation_line (gives s e)) U.Done
+    (All-map IsSpelled operation_line (gives s e) (gives_spelled s e m c)) refl)
     (λ k. All-nil IsSpelled)
 
 lines_spelled : (fs es : List Event) → MayAllCome start (es ++ fs) → All IsSpelled (update_lines (after_events start es) fs)
@@ -168,7 +188,8 @@ lines_spelled (e ∷ fs) es may =
     let s = after_events start es in
     let t = may_split start es (e ∷ fs) may in
     let more = lines_spelled fs (es ++ e ∷ []) (subst (MayAllCome start) (sym (append_assoc es (e ∷ []) fs)) may) in
-    All-append IsSpelled (event_lines s e) (update_lines (after_event s e) fs) (event_spelled s e (Holds.installed (holds es t.0)) t.1.0)
+    All-append IsSpelled (event_lines s e) (update_lines (after_event s e) fs)
+    (event_spelled s e (Holds.installed (holds es t.0)) t.1.0)
     (subst (λ (r : Installer). All IsSpelled (update_lines r fs)) (after_events-append start es (e ∷ [])) more)
 
 pub output_reads_back : OutputReadsBack

@@ -77,7 +77,9 @@ operations_reach ns may = given_reaches (events begin ns) may ∙ sym (ap Instal
 -- ---- a beginning of the notes
 
 pub first_may : (ns later : List Noted) → MayAllCome start (events begin (ns ++ later)) → MayAllCome start (events begin ns)
-first_may ns later may = (may_split start (events begin ns) (events (after_notes begin ns) later) (subst (MayAllCome start) (events-append begin ns later) may)).0
+first_may ns later may =
+    (may_split start (events begin ns) (events (after_notes begin ns) later)
+    (subst (MayAllCome start) (events-append begin ns later) may)).0
 
 pub first_too : (bytes : List ℕ) (refusals : List Bool) (ns later : List Noted) → AreFirst bytes refusals (replies_of (ns ++ later)) → AreFirst bytes refusals (replies_of ns)
 first_too bytes refusals ns later first =
@@ -86,14 +88,17 @@ first_too bytes refusals ns later first =
 
 -- ---- one event at most
 
-one_committing : (d : Bool) (cs : List Change) (M : List Route) → (cond d (committing cs M) [] ≡ []) ⊎ ((rs : List Route) × (cond d (committing cs M) [] ≡ Told rs M ∷ []))
+one_committing : (d : Bool) (cs : List Change) (M : List Route)
+    → (cond d (committing cs M) [] ≡ []) ⊎ ((rs : List Route) × (cond d (committing cs M) [] ≡ Told rs M ∷ []))
 one_committing true (c ∷ cs) M = inr (map route_to (c ∷ cs), refl)
 one_committing d cs M = inl refl
 
-pub one_event : (s : Installing) (note : FibInput) (M : List Route) → (event_of s note M ≡ []) ⊎ ((e : Event) × (event_of s note M ≡ e ∷ []))
+pub one_event : (s : Installing) (note : FibInput) (M : List Route)
+    → (event_of s note M ≡ []) ⊎ ((e : Event) × (event_of s note M ≡ e ∷ []))
 one_event s (N.Have net hop) M = inr (Have (route_of net hop default_preference), refl)
 one_event s N.Sync M = inr (Sync M, refl)
-one_event s (N.Reply l) M = ⊎_elim inl (λ t. inr (Told t.0 M, t.1)) (one_committing (option_map_or is_done (closes l) false) s.pending M)
+one_event s (N.Reply l) M =
+    ⊎_elim inl (λ t. inr (Told t.0 M, t.1)) (one_committing (option_map_or is_done (closes l) false) s.pending M)
 
 module _ (ns : List Noted) (n : Noted) where
   abbrev es : List Event
@@ -119,9 +124,11 @@ module _ (ns : List Noted) (n : Noted) where
 
     hitless_at : IsHitless (installed_by ns) (operations_at ns n)
     hitless_at = ⊎_elim
-        (λ none. subst (IsHitless (installed_by ns)) (sym (ap (given (Installing.tables (after_notes begin ns))) none)) (hitless_from (installed_by ns) [] (λ x a. (hop_at (installed_by ns) x, refl))))
+        (λ none. subst (IsHitless (installed_by ns)) (sym (ap (given (Installing.tables (after_notes begin ns))) none))
+        (hitless_from (installed_by ns) [] (λ x a. (hop_at (installed_by ns) x, refl))))
         (λ t. subst (IsHitless (installed_by ns)) (sym (given_one t.0 t.1))
-        (subst (λ M. IsHitless M (gives (after_events start es) t.0)) (sym (given_reaches es may_before)) (gives_hitless es t.0 (subst (λ fs. MayAllCome start (es ++ fs)) t.1 may_now))))
+        (subst (λ M. IsHitless M (gives (after_events start es) t.0)) (sym (given_reaches es may_before))
+        (gives_hitless es t.0 (subst (λ fs. MayAllCome start (es ++ fs)) t.1 may_now))))
         (one_event (after_notes begin ns) n.note n.table)
 
     module _ (kept : Installer.kept (after_events start es) ≡ true) where
@@ -131,20 +138,27 @@ module _ (ns : List Noted) (n : Noted) where
           ap (λ T. after_all (installed_by ns) (given T now)) (tables_after begin ns)
           ∙ sym (after-append (haves es) (given start es) (given (after_events start es) now))
           ∙ ap (after_all (haves es)) (sym (given-append start es now))
-          ∙ ap (λ M. after_all M (given start (es ++ now))) (sym (haves-append es now [] ∙ no_haves (haves es) now (after_events start es) kept (may_split start es now may_now).1))
+          ∙ ap (λ M. after_all M (given start (es ++ now)))
+          (sym (haves-append es now []
+          ∙ no_haves (haves es) now (after_events start es) kept (may_split start es now may_now).1))
           ∙ ap (λ fs. after_all (haves fs) (given start fs)) (sym whole)
 
-      next_hops : (x : Address) → IsAddress x → hop_at (after_all (installed_by ns) (operations_at ns n)) x ≡ painted_hop (committed (replies_of (ns ++ n ∷ []))) x
+      next_hops : (x : Address) → IsAddress x
+          → hop_at (after_all (installed_by ns) (operations_at ns n)) x ≡ painted_hop (committed (replies_of (ns ++ n ∷ []))) x
       next_hops x a =
-          let still = ap (λ fs. Installer.kept (after_events start fs)) whole ∙ ap Installer.kept (after_events-append start es now) ∙ kept_stays now (after_events start es) kept in
+          let still = ap (λ fs. Installer.kept (after_events start fs)) whole ∙ ap Installer.kept (after_events-append start es now)
+          ∙ kept_stays now (after_events start es) kept in
           ap (λ M. hop_at M x) next_reached ∙ kept_hops (ns ++ n ∷ []) may still x a
 
       -- each address turns from the hop that the replies before the note commit to that of the replies with it
-      turns_at : (x : Address) → IsAddress x → TurnsOnce (installed_by ns) (operations_at ns n) x (painted_hop (committed (replies_of ns)) x) (painted_hop (committed (replies_of (ns ++ n ∷ []))) x)
+      turns_at : (x : Address) → IsAddress x
+          → TurnsOnce (installed_by ns) (operations_at ns n) x (painted_hop (committed (replies_of ns)) x)
+          (painted_hop (committed (replies_of (ns ++ n ∷ []))) x)
       turns_at x a =
           let M = installed_by ns in
           let os = operations_at ns n in
-          subst (λ old. TurnsOnce M os x old (painted_hop (committed (replies_of (ns ++ n ∷ []))) x)) (kept_hops ns may_before kept x a)
+          subst (λ old. TurnsOnce M os x old (painted_hop (committed (replies_of (ns ++ n ∷ []))) x))
+          (kept_hops ns may_before kept x a)
           (subst (TurnsOnce M os x (hop_at M x)) (next_hops x a) ((hitless_is_turns_once M os).0 hitless_at x a))
 
 pub installed_is_hitless : InstalledIsHitless
@@ -153,7 +167,8 @@ installed_is_hitless = hitless_at
 pub installed_turns_once : InstalledTurnsOnce
 installed_turns_once ns n may has x a = turns_at ns n may (is_kept ns has) x a
 
-pub kept_at_all_times : (bytes : List ℕ) (refusals : List Bool) (ns later : List Noted) (n : Noted) → AreFirst bytes refusals (replies_of (ns ++ n ∷ later)) → MayAllCome start (events begin (ns ++ n ∷ later))
+pub kept_at_all_times : (bytes : List ℕ) (refusals : List Bool) (ns later : List Noted) (n : Noted)
+    → AreFirst bytes refusals (replies_of (ns ++ n ∷ later)) → MayAllCome start (events begin (ns ++ n ∷ later))
     → Installer.kept (after_events start (events begin ns)) ≡ true → (x : Address) → IsAddress x → (i : ℕ)
     → (hop_at (after_all (installed_by ns) (take i (operations_at ns n))) x ≡ hop_at (routes_of (table_by bytes refusals (replies_of ns))) x)
     ⊎ (hop_at (after_all (installed_by ns) (take i (operations_at ns n))) x ≡ hop_at (routes_of (table_by bytes refusals (replies_of (ns ++ n ∷ [])))) x)
@@ -189,7 +204,8 @@ syncs_stay ns least may has is =
     let before = events begin ns in
     given_one ns n (Sync least) refl
     ∙ sync_stays before least (may_now ns n may) (is_kept ns has)
-    (least_too (painted_hop (committed (replies_of ns))) (told None before) (λ x a. sym (told_is_committed ns x)) (Installer.installed (after_events start before))
+    (least_too (painted_hop (committed (replies_of ns))) (told None before) (λ x a. sym (told_is_committed ns x))
+    (Installer.installed (after_events start before))
     (subst (IsLeast (painted_hop (committed (replies_of ns)))) (given_reaches before (may_before ns n may)) is))
 
 -- ---- at an `ok`
@@ -203,7 +219,8 @@ replies_are_fewest ns nearest may has =
     let hops = painted_hop (committed (replies_of log)) in
     let reached = given_reaches before (may_before ns ok may) in
     let few : (L : List Operation) → HasHops hops (after_all (installed_by ns) L) → length (operations_at ns ok) ≤ length L = ⊎_elim
-    (λ none L l. subst (λ os. length os ≤ length L) (sym (ap (given (Installing.tables (after_notes begin ns))) none)) (omega arith))
+    (λ none L l. subst (λ os. length os ≤ length L) (sym (ap (given (Installing.tables (after_notes begin ns))) none))
+    (omega arith))
     (λ t L l.
     let m = subst (λ fs. MayAllCome start (before ++ fs)) t.1 (may_now ns ok may) in
     let same : (x : Address) → told None (before ++ Told t.0 nearest ∷ []) x ≡ hops x =
@@ -214,7 +231,8 @@ replies_are_fewest ns nearest may has =
     (one_committing true (Installing.pending (after_notes begin ns)) nearest) in
     record {
       hops = record {
-        table = subst IsTable (sym (next_reached ns ok may kept ∙ given_reaches (events begin log) may)) (Holds.installed (holds (events begin log) may));
+        table = subst IsTable (sym (next_reached ns ok may kept ∙ given_reaches (events begin log) may))
+            (Holds.installed (holds (events begin log) may));
         same = next_hops ns ok may kept;
       };
       fewest = few;

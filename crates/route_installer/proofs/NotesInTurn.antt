@@ -83,7 +83,8 @@ committed_from pending ls = cond (ends_well ls) pending [] ++ committed ls
 nothing_waits : (d : Bool) (cs : List Change) → cond d cs cs ≡ cond d [] [] ++ cs
 nothing_waits d cs = grind arith
 
-waits_before : (d : Bool) (pending more cs : List Change) → cond d pending [] ++ cond d (more ++ cs) cs ≡ cond d (pending ++ more) [] ++ cs
+waits_before : (d : Bool) (pending more cs : List Change)
+    → cond d pending [] ++ cond d (more ++ cs) cs ≡ cond d (pending ++ more) [] ++ cs
 waits_before d pending more cs = grind (arith, append_assoc)
 
 -- whether a line commits what waits
@@ -91,8 +92,10 @@ abbrev commits : Reply → Bool
 commits l = option_map_or is_done (closes l) false
 
 committed_more : (pending : List Change) (l : Reply) (ls : List Reply)
-    → committed_from pending (l ∷ ls) ≡ cond (commits l) pending [] ++ committed_from (pending_after pending (closes l) (change_of l)) ls
-committed_more pending (R.Close closing) ls = ap (λ cs. cond (is_done closing) pending [] ++ cs) (nothing_waits (ends_well ls) (committed ls))
+    → committed_from pending (l ∷ ls) ≡ cond (commits l) pending [] ++ committed_from
+    (pending_after pending (closes l) (change_of l)) ls
+committed_more pending (R.Close closing) ls =
+    ap (λ cs. cond (is_done closing) pending [] ++ cs) (nothing_waits (ends_well ls) (committed ls))
 committed_more pending l ls = waits_before (ends_well ls) pending (option_to_list (change_of l)) (committed ls)
 
 -- changes as routes give each address the same hop
@@ -111,7 +114,9 @@ module _ (x : Address) where
   -- an event, and later ones
   told_event : (note : FibInput) (s : Installing) (M : List Route) (ls : List Reply) (es : List Event)
       → ((now : Option ℕ) → told now es x ≡ painted_over now (committed_from (pending_past s.pending note) ls) x)
-      → (now : Option ℕ) → told now (event_of s note M ++ es) x ≡ painted_over now (committed_from s.pending (cons_option (reply_of_note note) ls)) x
+      → (now : Option ℕ)
+      → told now (event_of s note M ++ es) x ≡ painted_over now
+      (committed_from s.pending (cons_option (reply_of_note note) ls)) x
   told_event (N.Reply l) s M ls es h now =
       told_committing (commits l) s.pending M now es
       ∙ h (painted_over now (cond (commits l) s.pending []) x)
@@ -119,9 +124,11 @@ module _ (x : Address) where
       ∙ ap (λ cs. painted_over now cs x) (sym (committed_more s.pending l ls))
   told_event note s M ls es h now = h now
 
-  told_notes : (ns : List Noted) (s : Installing) (now : Option ℕ) → told now (events s ns) x ≡ painted_over now (committed_from s.pending (replies_of ns)) x
+  told_notes : (ns : List Noted) (s : Installing) (now : Option ℕ)
+      → told now (events s ns) x ≡ painted_over now (committed_from s.pending (replies_of ns)) x
   told_notes [] s now = refl
-  told_notes (n ∷ ns) s now = told_event n.note s n.table (replies_of ns) (events (after_note s n) ns) (told_notes ns (after_note s n)) now
+  told_notes (n ∷ ns) s now =
+      told_event n.note s n.table (replies_of ns) (events (after_note s n) ns) (told_notes ns (after_note s n)) now
 
 -- the hops that notes tell are those that their reply lines commit
 pub told_is_committed : (ns : List Noted) (x : Address) → told None (events begin ns) x ≡ painted_hop (committed (replies_of ns)) x

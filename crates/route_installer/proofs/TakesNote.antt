@@ -80,7 +80,9 @@ pub next_painted : (M : List Route) (ws : List (IpNet × Hop)) (i : ℕ) (w : Ip
     → N ≡ painted T (route_of w.0 w.1 default_preference) → N ≡ painted_all M (routes_for (take (i + 1) ws))
 next_painted M ws i w within is T N now e =
     let r = route_of w.0 w.1 default_preference in
-    let next : routes_for (take (i + 1) ws) ≡ routes_for (take i ws) ++ r ∷ [] = ap routes_for (before_place ws i w within is) ∙ map-append (λ (p : IpNet × Hop). route_of p.0 p.1 default_preference) (take i ws) (w ∷ []) in
+    let next : routes_for (take (i + 1) ws) ≡ routes_for (take i ws) ++ r ∷ [] =
+    ap routes_for (before_place ws i w within is)
+    ∙ map-append (λ (p : IpNet × Hop). route_of p.0 p.1 default_preference) (take i ws) (w ∷ []) in
     let last = after-append painted painted_all (λ s. refl) (λ s q qs. refl) M (routes_for (take i ws)) (r ∷ []) in
     e ∙ ap (λ S. painted S r) now ∙ sym (ap (painted_all M) next ∙ last)
 
@@ -102,7 +104,8 @@ kept_at M cs = record { tables = record { table = M; installed = M; kept = true 
 abbrev unkept_at : List Route → List Route → List Change → Installing
 unkept_at M I cs = record { tables = record { table = M; installed = I; kept = false }; pending = cs }
 
-pub kept_is : (table : List Stored) (before : Option (List Stored)) (cs : List Change) → not (is_some before) ≡ true → record { tables = tables_of table before; pending = cs } ≡ kept_at (routes_of table) cs
+pub kept_is : (table : List Stored) (before : Option (List Stored)) (cs : List Change) → not (is_some before) ≡ true
+    → record { tables = tables_of table before; pending = cs } ≡ kept_at (routes_of table) cs
 kept_is table None cs k = refl
 kept_is table (Some before) cs k = absurd (cc)
 
@@ -115,12 +118,23 @@ committing_some (c ∷ cs) L some = refl
 
 module _ {W : Type 0} (contents : W → Option (List ℕ)) where
   -- a note of one event that gives a batch
-  taken_event : (a b : Installing) (note : FibInput) (L : List Route) (e : Event) (old new : Counted W) (r : Result Unit RunError) → event_of a note L ≡ e ∷ [] → (after_event a.tables e).kept ≡ true → IsFit a.tables e
-      → Closes contents 1 old new r (batch_bytes (gives a.tables e)) → (r ≡ Ok tt → b ≡ record { tables = after_event a.tables e; pending = pending_past a.pending note }) → TakesNote contents a note old r b new
-  taken_event a b note L e old new (Ok done) is k fit h next = (L, record { fit = rw is (fit, tt); next = rw is (next refl); closed = rw (is, k, append-nil) h })
+  taken_event : (a b : Installing) (note : FibInput) (L : List Route) (e : Event) (old new : Counted W) (r : Result Unit RunError)
+      → event_of a note L ≡ e ∷ [] → (after_event a.tables e).kept ≡ true → IsFit a.tables e
+      → Closes contents 1 old new r (batch_bytes (gives a.tables e))
+      → (r ≡ Ok tt → b ≡ record { tables = after_event a.tables e; pending = pending_past a.pending note })
+      → TakesNote contents a note old r b new
+  taken_event a b note L e old new (Ok done) is k fit h next =
+      (L, record { fit = rw is (fit, tt); next = rw is (next refl); closed = rw (is, k, append-nil) h })
   taken_event a b note L e old new (Err why) is k fit h next =
       let text : batch_bytes (gives a.tables e) ≡ noted_bytes a (record { note = note; table = L }) = rw (is, k, append-nil) in
-      rw h.0 (L, record { fit = rw is (fit, tt); some = subst (λ t. 0 < length t) text (batch_some (gives a.tables e)); torn = rw text at h.1 })
+      rw h.0 (
+        L,
+        record {
+          fit = rw is (fit, tt);
+          some = subst (λ t. 0 < length t) text (batch_some (gives a.tables e));
+          torn = rw text at h.1;
+        },
+      )
 
   -- a route that is installed already
   pub taken_have : (a b : Installing) (net : IpNet) (hop : Hop) (old : Counted W) (r : Result Unit RunError) → Has a (route_of net hop default_preference) r b → TakesNote contents a (N.Have net hop) old r b old
@@ -132,14 +146,18 @@ module _ {W : Type 0} (contents : W → Option (List ℕ)) where
   -- a `sync`
   pub taken_sync : (a b : Installing) (L : List Route) (old new : Counted W) (r : Result Unit RunError) → IsLeast (hop_at a.tables.table) L → (a.tables.kept ≡ true → IsLeast (hop_at a.tables.table) a.tables.installed → L ≡ a.tables.installed)
       → Replaces contents a L old r b new → TakesNote contents a N.Sync old r b new
-  taken_sync a b L old new (Ok done) least stays h = taken_event a b N.Sync L (Sync L) old new (Ok done) refl refl (least, stays) h.2 (λ e. h.0)
+  taken_sync a b L old new (Ok done) least stays h =
+      taken_event a b N.Sync L (Sync L) old new (Ok done) refl refl (least, stays) h.2 (λ e. h.0)
   taken_sync a b L old new (Err Why.Memory) least stays h = (tt, h)
-  taken_sync a b L old new (Err Why.Write) least stays h = taken_event a b N.Sync L (Sync L) old new (Err Why.Write) refl refl (least, stays) (refl, h.1) (λ e. absurd (cc))
+  taken_sync a b L old new (Err Why.Write) least stays h =
+      taken_event a b N.Sync L (Sync L) old new (Err Why.Write) refl refl (least, stays) (refl, h.1) (λ e. absurd (cc))
   taken_sync a b L old new r least stays h = absurd h
 
   -- a table in the place of another
-  pub replaced : (a b : Installing) (L : List Route) (old new : Counted W) (r : Result Unit RunError) (I : List Route) (os : List Operation) → I ≡ a.tables.installed → os ≡ between I L → IsTable I → Closes contents 1 old new r (batch_bytes os)
-      → (r ≡ Ok tt → b ≡ record { tables = record { table = L; installed = L; kept = true }; pending = a.pending }) → Replaces contents a L old r b new
+  pub replaced : (a b : Installing) (L : List Route) (old new : Counted W) (r : Result Unit RunError) (I : List Route)
+      (os : List Operation) → I ≡ a.tables.installed → os ≡ between I L → IsTable I → Closes contents 1 old new r (batch_bytes os)
+      → (r ≡ Ok tt → b ≡ record { tables = record { table = L; installed = L; kept = true }; pending = a.pending })
+      → Replaces contents a L old r b new
   replaced a b L old new (Ok done) I os installed is m h next = (next refl, rw installed at m, rw (is, installed) at h)
   replaced a b L old new (Err why) I os installed is m h next = rw h.0 (rw installed at m, rw (is, installed) at h.1)
 
@@ -150,7 +168,8 @@ module _ {W : Type 0} (contents : W → Option (List ℕ)) where
 
     -- `ok` with changes, and this nearest table is installed
     pub update_of : (T : List Route) (b : Installing) → 0 < length a.pending → IsNearest (routes_of table) (hop_at (painted_all (routes_of table) (routes_for ws))) T
-        → Closes contents 1 old new r (batch_bytes (between (routes_of table) T)) → (r ≡ Ok tt → b ≡ kept_at T []) → TakesNote contents a (N.Reply (Close Done)) old r b new
+        → Closes contents 1 old new r (batch_bytes (between (routes_of table) T)) → (r ≡ Ok tt → b ≡ kept_at T [])
+        → TakesNote contents a (N.Reply (Close Done)) old r b new
     update_of T b some nearest h next =
         let M = routes_of table in
         let cs = changes_of ws in
@@ -165,28 +184,46 @@ module _ {W : Type 0} (contents : W → Option (List ℕ)) where
     stays_of list m least same h =
         let M = routes_of table in
         let s = kept_at M (changes_of ws) in
-        let stays : IsLeast (hop_at M) M = record { hops = record { table = m; same = λ x a. refl }; fewest = λ K l. omega (arith, same, length_for list, least.fewest K l) } in
+        let stays : IsLeast (hop_at M) M =
+        record {
+          hops = record { table = m; same = λ x a. refl };
+          fewest = λ K l. omega (arith, same, length_for list, least.fewest K l);
+        } in
         subst (λ t. TakesNote contents t N.Sync old r t new) parts
-        (taken_event s s N.Sync M (Sync M) old new r refl refl (stays, λ e l. refl) (subst (Closes contents 1 old new r) (batch_is [] ∙ ap batch_bytes (sym (none_between M m))) h) (λ e. refl))
+        (taken_event s s N.Sync M (Sync M) old new r refl refl (stays, λ e l. refl)
+        (subst (Closes contents 1 old new r) (batch_is [] ∙ ap batch_bytes (sym (none_between M m))) h) (λ e. refl))
 
   -- `ok` where the table is not kept
-  taken_unseen : (M I : List Route) (cs : List Change) (b : Installing) (old : Counted W) → b ≡ unkept_at (painted_all M (map route_to cs)) I [] → TakesNote contents (unkept_at M I cs) (N.Reply (Close Done)) old (Ok tt) b old
+  taken_unseen : (M I : List Route) (cs : List Change) (b : Installing) (old : Counted W)
+      → b ≡ unkept_at (painted_all M (map route_to cs)) I []
+      → TakesNote contents (unkept_at M I cs) (N.Reply (Close Done)) old (Ok tt) b old
   taken_unseen M I [] b old next = ([], record { fit = tt; next = next; closed = Closed-nil contents old })
-  taken_unseen M I (c ∷ cs) b old next = ([], record { fit = ((λ k. absurd (cc)), tt); next = next; closed = Closed-nil contents old })
+  taken_unseen M I (c ∷ cs) b old next =
+      ([], record { fit = ((λ k. absurd (cc)), tt); next = next; closed = Closed-nil contents old })
 
   -- changes that were carried out unseen
   pub unseen_of : (a b : Installing) (old : Counted W) (r : Result Unit RunError) → a.tables.kept ≡ false → OnOk r (b.tables ≡ record { table = painted_all a.tables.table (map route_to a.pending); installed = a.tables.installed; kept = false })
       → OnOk r (b.pending ≡ []) → IfErr r (λ e. e ≡ Why.Memory) → OnErr r (0 < length a.pending) → TakesNote contents a (N.Reply (Close Done)) old r b old
   unseen_of a b old (Ok done) k tables pending memory some =
-      subst (λ s. TakesNote contents s (N.Reply (Close Done)) old (Ok tt) b old) (λ i. record { tables = record { table = a.tables.table; installed = a.tables.installed; kept = sym k i }; pending = a.pending })
+      subst (λ s. TakesNote contents s (N.Reply (Close Done)) old (Ok tt) b old)
+      (λ i. record {
+        tables = record { table = a.tables.table; installed = a.tables.installed; kept = sym k i };
+        pending = a.pending;
+      })
       (taken_unseen a.tables.table a.tables.installed a.pending b old (λ i. record { tables = tables i; pending = pending i }))
   unseen_of a b old (Err e) k tables pending memory some = rw memory (inr (refl, some), refl)
 
   -- a change that was kept
   pub keep_of : (a b : Installing) (line : Reply) (c : Change) (old : Counted W) (r : Result Unit RunError) → closes line ≡ None → change_of line ≡ Some c → b.tables ≡ a.tables → OnOk r (b.pending ≡ a.pending ++ c ∷ []) → IfErr r (λ e. e ≡ Why.Memory)
       → TakesNote contents a (N.Reply line) old r b old
-  keep_of a b line c old (Ok done) shut is tables pending memory =
-      ([], record { fit = rw shut tt; next = rw (shut, is) (λ i. record { tables = tables i; pending = pending i }); closed = rw shut (Closed-nil contents old) })
+  keep_of a b line c old (Ok done) shut is tables pending memory = (
+    [],
+    record {
+      fit = rw shut tt;
+      next = rw (shut, is) (λ i. record { tables = tables i; pending = pending i });
+      closed = rw shut (Closed-nil contents old);
+    },
+  )
   keep_of a b line c old (Err e) shut is tables pending memory = rw memory (inl (rw is refl), refl)
 
 -- a least table of another length than the table that is kept: that is no least one

@@ -14,7 +14,8 @@ returns c =
     let M = routes_of c.args.table.now in
     let u = c.in_ok-operations.ensures.updates in
     let is : routes_of c.carry_out.new.self ≡ u.table =
-    c.in_ok-carry_out.ensures.routes ∙ ap (λ l. after_all M (map operation_of l)) c.as_slice.ensures.value ∙ ap (after_all M) u.operations
+    c.in_ok-carry_out.ensures.routes ∙ ap (λ l. after_all M (map operation_of l)) c.as_slice.ensures.value
+    ∙ ap (after_all M) u.operations
     ∙ between_reaches M u.table c.in_ok-operations.ensures.table u.nearest.hops.table in
     record {
       nearest = subst (IsNearest M (hop_at (painted_all M (routes_for c.args.changes.now)))) (sym is) u.nearest;

@@ -22,9 +22,11 @@ pub returns : goal.returns
 returns g c =
     let items = c.in_ok-list.list.items in
     let least = subst (λ M. IsLeast (hop_at M) (routes_for items)) (ap (λ s. s.tables.table) c.self.view_is) c.in_ok-list.ensures.least in
-    let other : is_some c.self.inside.before ≡ false → length (routes_of c.self.inside.table) ≢ length items = elim c.else-is_none.branch [
+    let other : is_some c.self.inside.before ≡ false → length (routes_of c.self.inside.table) ≢ length items =
+    elim c.else-is_none.branch [
       | else-is_none-via-then-is_none+else-has_as_many w ↦ (λ none same. w.has_as_many.ensures.other w.if-has_as_many.false (same ∙ sym (ap length w.as_slice.ensures.value)))
       | else-is_none-via-else-is_none w ↦ (λ none same. let both = sym (c.is_none.ensures ∙ ap not w.if-is_none.false) ∙ none in cc)
     ] in
     taken_sync g.W.Write.contents c.args.self.now c.replace.new.self (routes_for items) c.args.writer.now c.replace.new.writer c.replace.result least
-    (never_stays c.self.inside.table c.self.inside.before _ c.args.self.now items c.self.view_is c.in_ok-list.ensures.least other) (rw c.as_slice-2.ensures.value at c.replace.ensures)
+    (never_stays c.self.inside.table c.self.inside.before _ c.args.self.now items c.self.view_is c.in_ok-list.ensures.least other)
+    (rw c.as_slice-2.ensures.value at c.replace.ensures)
