@@ -222,7 +222,7 @@ replies_are_fewest ns nearest may has =
     (λ none L l. subst (λ os. length os ≤ length L) (sym (ap (given (Installing.tables (after_notes begin ns))) none))
     (omega arith))
     (λ t L l.
-    let m = subst (λ fs. MayAllCome start (before ++ fs)) t.1 (may_now ns ok may) in
+    let m = subst (λ fs. MayAllCome start (before ++ fs)) {y = Told t.0 nearest ∷ []} t.1 (may_now ns ok may) in
     let same : (x : Address) → told None (before ++ Told t.0 nearest ∷ []) x ≡ hops x =
     λ x. sym (ap (λ fs. told None fs x) (whole ns ok ∙ ap (λ fs. before ++ fs) t.1)) ∙ told_is_committed log x in
     let k = subst (λ M. HasHops hops (after_all M L)) reached l in
