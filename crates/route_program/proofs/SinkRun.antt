@@ -1,5 +1,5 @@
 -- Lines taken one after another.
-use Rattle.std.proofs.Common.{◌≡◌, ◌≢◌, ◌==◌, false, ℕ, ◌+◌, ◌-◌, ◌<◌, ◌≤◌, All, eq-eqb, eqb-true, ne_eqb, inl, inr, ⊎_elim, List, [], ◌∷◌, ◌++◌, length, length-append, take, drop, zero, suc, get_or, Option, Some, Result, Ok, Err, refl, sym, ap, ◌∙◌, subst, append_assoc, take-append-drop, option_to_list, drop-cons, OnOk, arith}
+use Rattle.std.proofs.Common.{◌≡◌, ◌≢◌, ◌==◌, false, ℕ, ◌+◌, ◌-◌, ◌<◌, ◌≤◌, All, eq-eqb, eqb-true, ne_eqb, inl, inr, ⊎_elim, List, [], ◌∷◌, ◌++◌, length, length-append, take, drop, zero, suc, get_or, Option, Some, Result, Ok, Err, refl, sym, ap, ◌∙◌, subst, append_assoc, take-append-drop, option_to_list, OnOk, arith}
 use Rattle.route_lines.specs.Kept.{Kept}
 use Rattle.std.proofs.lemmas.Result.{on_ok_weaker}
 use Rattle.std.specs.Io.KnownBytes.{Consumes}
@@ -25,16 +25,13 @@ answers-append = made-append fed fed_all (λ s. refl) (λ s e es. refl) (λ k b.
 pub none_found : (xs : List ℕ) → Nowhere (Passes (is_byte 10) xs) 0 (length xs) → All (λ c. c ≢ 10) xs
 none_found xs none = All-from_get_or (λ c. c ≢ 10) xs 0 (λ k below e. none k (omega arith) below (eq-eqb _ 10 e))
 
--- a text after some of its bytes, and after n more
-pub after_more : (all front left : List ℕ) (n : ℕ) → all ≡ front ++ left → all ≡ (front ++ take n left) ++ take (length left - n) (drop n left)
-after_more all front left n is = is ∙ simp (append_assoc, take_rest, take-append-drop)
-
--- at the next line end
+-- a text after some of its bytes, at the next line end
 pub at_end : (all front left : List ℕ) (i : ℕ) → all ≡ front ++ left → i < length left → Passes (is_byte 10) left i
     → all ≡ (front ++ (take i left ++ 10 ∷ [])) ++ take (length left - (i + 1)) (drop (i + 1) left)
 at_end all front left i is h e =
-    after_more all front left (i + 1) is
-    ∙ ap (λ l. (front ++ l) ++ take (length left - (i + 1)) (drop (i + 1) left)) (take_more left i 0 h ∙ ap (λ b. take i left ++ b ∷ []) (eqb-true (get_or left i 0) 10 e))
+    let line = take_more left i 0 h ∙ ap (λ b. take i left ++ b ∷ []) (eqb-true (get_or left i 0) 10 e) in
+    is ∙ ap (λ l. front ++ l) (sym (take-append-drop (i + 1) left) ∙ ap (λ l. l ++ drop (i + 1) left) line)
+    ∙ simp (append_assoc, take_rest)
 
 module _ {S W : Type 0} (takes : S → Line → Counted W → Result Unit RunError → S → Counted W → Type 0) where
   TakesAll-one : (a b : S) (l : Line) (u v : Counted W) (r : Result Unit RunError) → takes a l u r b v → TakesAll takes a (l ∷ []) u r b v
@@ -98,6 +95,7 @@ module _ {S R W : Type 0} (takes : S → Line → Counted W → Result Unit RunE
     bytes = x.bytes ++ piece;
     read = Consumes-trans _ _ _ x.bytes piece x.read read;
     few = let f = x.few in omega (arith, f, few, length-append x.bytes piece);
-    taken = rw (← new_answers (x.bytes ++ piece)) (takes_more takes a b c (kept_of []) k x.bytes piece u v w result (rw new_answers x.taken) x.kept taken);
+    taken = rw (← new_answers (x.bytes ++ piece))
+        (takes_more takes a b c (kept_of []) k x.bytes piece u v w result (rw new_answers x.taken) x.kept taken);
     kept = on_ok_weaker result (λ e. e ∙ ap (λ n. fed_all n piece) x.kept ∙ sym (fed_all-append (kept_of []) x.bytes piece)) fed;
   }

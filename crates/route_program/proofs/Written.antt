@@ -1,12 +1,11 @@
 -- Writes one after another.
-use Rattle.std.proofs.Common.{◌≡◌, ◌==◌, length-append, suc-add, zero-add, ℕ, zero, suc, ◌<◌, ◌≤◌, ◌+◌, ◌-◌, ◌^◌, Bool, true, false, not, ◌&&◌, ◌||◌, List, [], ◌∷◌, ◌++◌, length, Option, Result, Ok, Err, refl, sym, ap, ◌∙◌, subst, append_assoc, append-nil, arith}
-use Rattle.std.specs.Io.KnownBytes.{Appends}
+use Rattle.std.proofs.Common.{◌≡◌, ◌==◌, length-append, suc-add, zero-add, ℕ, zero, suc, ◌<◌, ◌+◌, Bool, true, false, not, ◌&&◌, ◌||◌, List, [], ◌∷◌, ◌++◌, length, Option, Result, Ok, Err, refl, sym, ap, ◌∙◌, subst, append_assoc, append-nil, arith}
 use Rattle.std.proofs.KnownBytes.{Appends-nil, Appends-trans}
 use Rattle.std.proofs.lemmas.Bool.{or_right, and_right}
 use Rattle.std.proofs.lemmas.Bool.Decides.{nat_tests}
 use Rattle.route_program.specs.declared.error.RunError.{RunError}
 use Rattle.route_program.specs.declared.counted.Counted.{Counted}
-use Rattle.route_program.specs.Counted.{MoreByIsMin, one_more, more_by, Flushed}
+use Rattle.route_program.specs.Counted.{one_more, more_by}
 use Rattle.route_program.specs.Devices.{Written, Delivers, has_bytes, Closed, Torn, Closes}
 
 -- a text of two has bytes where one of them has
@@ -23,12 +22,6 @@ has_some [] h = absurd (omega arith)
 has_some (b ∷ text) h = refl
 
 -- flushes after flushes
-pub more_by_is_min : MoreByIsMin
-more_by_is_min zero n h = omega (arith, h)
-more_by_is_min (suc times) n h =
-    let small : one_more n ≤ 2 ^ 64 - 1 = omega (arith, h) in
-    more_by_is_min times (one_more n) small ∙ omega (arith, h)
-
 more_plus : (m n x : ℕ) → more_by (m + n) x ≡ more_by n (more_by m x)
 more_plus zero n x = rw zero-add
 more_plus (suc m) n x = rw suc-add (more_plus m n (one_more x))
@@ -85,7 +78,8 @@ module _ {W : Type 0} (contents : W → Option (List ℕ)) where
   pub Closes-end : {T : Type 0} (a b c : Counted W) (r : Result T RunError) (s : List ℕ) → Written contents a b s → Closes contents 1 b c r [] → Closes contents 1 a c r s
   Closes-end a b c r s p q = subst (Closes contents 1 a c r) (append-nil s) (Closes-written a b c r s [] p q)
 
-  Delivers-closed : {T : Type 0} (a b : Counted W) (r : Result T RunError) (s : List ℕ) → Closes contents 1 a b r s → Delivers contents a b r s
+  Delivers-closed : {T : Type 0} (a b : Counted W) (r : Result T RunError) (s : List ℕ) → Closes contents 1 a b r s
+      → Delivers contents a b r s
   Delivers-closed a b (Ok x) s q = record { appended = q.appended; faults = q.faults; flushed = q.flushed }
   Delivers-closed a b (Err e) s q = q
 
@@ -97,7 +91,8 @@ module _ {W : Type 0} (contents : W → Option (List ℕ)) where
   Closed-nil w = record { appended = Appends-nil (contents w.device); faults = refl; flushed = (refl, refl, refl) }
 
   -- replies after replies
-  pub Closed-plus : (m n : ℕ) (a b c : Counted W) (s t : List ℕ) → Closed contents m a b s → Closed contents n b c t → Closed contents (m + n) a c (s ++ t)
+  pub Closed-plus : (m n : ℕ) (a b c : Counted W) (s t : List ℕ) → Closed contents m a b s → Closed contents n b c t
+      → Closed contents (m + n) a c (s ++ t)
   Closed-plus m n a b c s t p q = record {
     appended = Appends-trans _ _ _ s t p.appended q.appended;
     faults = q.faults ∙ p.faults;

@@ -22,8 +22,9 @@ loop-read-preserved g c =
     let piece = take c.in-Ok.count c.read.new.buf in
     let count = length-take-le c.in-Ok.count c.read.new.buf (omega (arith, c.in-Ok.ensures.bound)) in
     record {
-      went = Went-more g.S.Sink.takes g.R.Read.remaining 0 c.args.sink.now c.loop-read.sink c.take_piece.new.sink c.args.reader.now c.loop-read.reader c.read.new.self c.args.writer.now c.loop-read.writer c.take_piece.new.writer
-          c.loop-read.cutter c.take_piece.new.cutter piece (Ok tt) inv.went (omega (arith, c.in-Ok.ensures.reads, count, c.if-count-eq0.false)) c.in-Ok.ensures.bytes.0 c.in_ok-take_piece.ensures.takes c.in_ok-take_piece.ensures.cutter;
+      went = Went-more g.S.Sink.takes g.R.Read.remaining 0 _ _ _ _ _ _ _ _ _ _ _ piece (Ok tt) inv.went
+          (omega (arith, c.in-Ok.ensures.reads, count, c.if-count-eq0.false))
+          c.in-Ok.ensures.bytes.0 c.in_ok-take_piece.ensures.takes c.in_ok-take_piece.ensures.cutter;
       can = c.in_ok-take_piece.ensures.others;
       reads = omega (arith, c.in-Ok.ensures.reads, inv.reads, c.requires.reader.0);
       faults = c.in-Ok.ensures.faults ∙ inv.faults;

@@ -35,8 +35,11 @@ pub returns-clause-takes : goal.returns-clause-takes
 returns-clause-takes g c =
     let inv = c.loop-end.invariant in
     let left = c.loop-end.left.now in
-    rw inv.is (takes_more g.S.Sink.takes c.args.sink.now c.loop-end.sink c.loop-end.sink c.args.cutter.now c.loop-end.cutter inv.front left c.args.writer.now c.loop-end.writer c.loop-end.writer (Ok tt) inv.taken inv.cutter
+    rw inv.is (takes_more g.S.Sink.takes c.args.sink.now c.loop-end.sink c.loop-end.sink c.args.cutter.now c.loop-end.cutter
+    inv.front left c.args.writer.now c.loop-end.writer c.loop-end.writer (Ok tt) inv.taken inv.cutter
     (rw (quiet c.loop-end.cutter left (none_found left c.in_default.ensures)) (refl, refl, refl)))
 
 pub returns-clause-cutter : goal.returns-clause-cutter
-returns-clause-cutter g c = rw (c.loop-end.invariant.is, fed_all-append) (c.hold.ensures.kept ∙ ap (λ k. fed_all k c.loop-end.left.now) c.loop-end.invariant.cutter)
+returns-clause-cutter g c =
+    rw (c.loop-end.invariant.is, fed_all-append)
+    (c.hold.ensures.kept ∙ ap (λ k. fed_all k c.loop-end.left.now) c.loop-end.invariant.cutter)

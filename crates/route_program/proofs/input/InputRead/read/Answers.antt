@@ -12,7 +12,8 @@ returns-then-is_empty-clause-bytes g c =
     sym c.left-left.ensures ∙ none_left c.left-left.result.now (sym c.is_empty.ensures ∙ c.if-is_empty.true) in
     rw c.keep.ensures.device (
       handed _ _ _ given (take c.keep.result c.read.new.buf) _
-          (ap (λ l. l ++ given) none ∙ sym (take-append-drop c.keep.result given) ∙ simp (take-take c.keep.result c.in_ok-count.count c.read.new.buf short, c.keep.ensures.kept))
+          (ap (λ l. l ++ given) none ∙ sym (take-append-drop c.keep.result given)
+          ∙ simp (take-take c.keep.result c.in_ok-count.count c.read.new.buf short, c.keep.ensures.kept))
           c.in_ok-count.ensures.bytes.0,
       λ zero room. let e = nothing_kept c.keep.result given c.keep.ensures.some zero in
           at_end _ _ (c.keep.ensures.kept ∙ e.1) (c.in_ok-count.ensures.bytes.1 (whole ∙ ap length e.0) room),
@@ -26,7 +27,10 @@ returns-clause-bytes g c =
     let short : n ≤ length left = omega (arith, c.min-count.ensures) in
     let room : n ≤ length c.args.buf.now = omega (arith, c.min-count.ensures) in
     let copy = copied n left c.copy_from_slice.new.self _ c.copy_from_slice.ensures.after short in
-    let rest = ap (λ k. drop (k - (length left - n)) c.args.self.now.kept.items) c.len.ensures.value ∙ left_after c.args.self.now.start n c.args.self.now.kept.items left c.left-left.ensures short some in (
-      handed _ _ _ [] _ _ (append-nil _ ∙ sym c.left-left.ensures ∙ sym (take-append-drop n left) ∙ ap₂ (λ a b. a ++ b) (sym copy) (sym rest)) (Consumes-nil _),
+    let rest = ap (λ k. drop (k - (length left - n)) c.args.self.now.kept.items) c.len.ensures.value
+    ∙ left_after c.args.self.now.start n c.args.self.now.kept.items left c.left-left.ensures short some in (
+      handed _ _ _ [] _ _
+          (append-nil _ ∙ sym c.left-left.ensures ∙ sym (take-append-drop n left) ∙ ap₂ (λ a b. a ++ b) (sym copy) (sym rest))
+          (Consumes-nil _),
       λ zero room. absurd (omega (arith, some, zero, c.min-count.ensures, room, c.copy_from_slice.ensures.len)),
     )
