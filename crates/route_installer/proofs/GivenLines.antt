@@ -1,184 +1,202 @@
--- The lines of an installer are its operations, and what they make is what the operations make.
-use Rattle.std.proofs.Common.{◌≡◌, ◌⊎◌, ℕ, suc, inl, inr, ⊎_elim, Bool, true, false, not, cond, nat_lt, List, [], ◌∷◌, ◌++◌, map, filter, take, length, Option, Some, None, refl, sym, ap, ◌∙◌, subst, append-nil, option_map, arith}
-use Rattle.std.proofs.lemmas.List.{map-append}
-use Rattle.std.proofs.lemmas.List.Elements.{filter-append}
+-- The lines of an installer: its operations, which make what they say, and are read again as they were written.
+use Rattle.std.proofs.Common.{◌≡◌, ◌≢◌, ◌⊎◌, suc, inl, inr, ⊎_elim, List, [], ◌∷◌, ◌++◌, map, filter, filter_map, take, length, Option, All, refl, reverse, sym, ap, ◌∙◌, subst, append_assoc, append-nil, not, arith}
+use Rattle.std.proofs.Math.Seq.{take-append_seam}
+use Rattle.std.proofs.lemmas.Bool.{cond_both}
+use Rattle.std.proofs.lemmas.List.{map-append, take-map}
+use Rattle.std.proofs.lemmas.List.Elements.{All-append, All-filter, All-head, All-map, All-nil, All-push, All-tail, All-weaker, filter-append, filter_map-append, recursion_from_All}
 use Rattle.ipnet_addr.specs.Addresses.{Address}
-use Rattle.ipnet_blocks.specs.Blocks.{Block, host, is_before, is_inside, same_block}
-use Rattle.ipnet.specs.IpNets.{block}
+use Rattle.ipnet_addr.proofs.Ascending.{All-from_In, In-from_All}
+use Rattle.ipnet_blocks.specs.Blocks.{Block, IsBlock, same_block}
+use Rattle.ipnet.specs.IpNets.{block, network_at}
+use Rattle.ipnet.proofs.Spelled.{net_reads}
 use Rattle.route_choices.specs.Choices.{default_preference}
-use Rattle.route_choices.proofs.Kept.{filter_map_swap}
+use Rattle.route_choices.specs.Hops.{IsHop}
+use Rattle.route_choices.proofs.Kept.{In-from_filter, filter_map_swap}
+use Rattle.route_lines.specs.Bytes.{lines}
+use Rattle.route_lines.specs.Spelled.{update_of}
+use Rattle.route_lines.specs.Texts.{IsUpdate, update_text}
 use Rattle.route_lines.specs.declared.fib_update.FibUpdate.{FibUpdate}
 use Rattle.route_lines.specs.declared.fib_update.FibUpdate.TheVariants as U
-use Rattle.route_laws.specs.Operations.{Operation, Install, Remove, after_all, between}
-use Rattle.route_laws.specs.Runs.{Event, Have, Told, Sync, Installer, after_event, after_events, given, gives, start}
-use Rattle.route_laws.specs.Tables.{Route, covering, hop_at, longer, longest, match_number, match_of, route_of, with_route, without_block}
+use Rattle.route_lines.proofs.Updates.{updates, prints}
+use Rattle.route_laws.specs.Operations.{Operation, Install, Remove, after_all, between, missing, surplus}
+use Rattle.route_laws.specs.Runs.{Event, Have, Told, Sync, Installer, MayCome, MayAllCome, after_event, after_events, given, gives, start}
+use Rattle.route_laws.specs.Tables.{Route, IsTable, hop_at, route_of, with_route, without_block}
+use Rattle.route_laws.proofs.Between.{reverse_In}
+use Rattle.route_laws.proofs.FlatTables.{hops_same, preferring}
 use Rattle.route_laws.proofs.NetworksAt.{of_network_at}
-use Rattle.route_installer.specs.Installing.{after_notes, batches, batches_given, begin, event_lines, event_of, events, operation_line, update_lines}
-use Rattle.route_installer.specs.Laws.{NotesGiveBatches, OutputIsGiven, carried_out, is_operation, lines_given}
-use Rattle.route_installer.proofs.KeptTable.{AtMostOne, one_event}
-use Rattle.route_installer.proofs.NotesInTurn.{batches-append, events-append, lines-append, tables_after}
+use Rattle.route_laws.proofs.Runs.{Holds, holds}
+use Rattle.route_installer.specs.Installing.{after_notes, batches, batches_given, begin, event_lines, event_of, events, operation_line, printed_updates, update_lines}
+use Rattle.route_installer.specs.Laws.{BeginningsAreCarriedOut, NotesGiveBatches, OutputIsGiven, OutputReadsBack, carried_out, is_operation, lines_given, updates_in}
+use Rattle.route_feed.proofs.Beginnings.{first_lines}
+use Rattle.route_feed.proofs.PrintedLines.{first_line, is_cut, word_hop}
+use Rattle.route_feed.proofs.ReadLines.{of_updates, read_is}
+use Rattle.route_installer.proofs.KeptTable.{one_event, whole}
+use Rattle.route_installer.proofs.NotesInTurn.{after_events-append, batches-append, lines-append, may_split, tables_after}
 
 -- ---- the lines of operations
 
 all_operations : (os : List Operation) → filter is_operation (map operation_line os) ≡ map operation_line os
 all_operations [] = refl
-all_operations (Install r ∷ os) = ap (λ us. operation_line (Install r) ∷ us) (all_operations os)
-all_operations (Remove b ∷ os) = ap (λ us. operation_line (Remove b) ∷ us) (all_operations os)
+all_operations (o ∷ os) = grind (arith, all_operations os)
 
 batch_operations : (os : List Operation) → filter is_operation (map operation_line os ++ U.Done ∷ []) ≡ map operation_line os
-batch_operations os = filter-append is_operation (map operation_line os) (U.Done ∷ []) ∙ append-nil (filter is_operation (map operation_line os)) ∙ all_operations os
+batch_operations os = simp (filter-append, all_operations, append-nil)
 
 -- where the table is not kept nothing is given
 event_operations : (s : Installer) (e : Event) → filter is_operation (event_lines s e) ≡ map operation_line (gives s e)
-event_operations s (Have r) = go s.kept
-  where
-    go : (b : Bool) → filter is_operation (cond b (U.Done ∷ []) []) ≡ []
-    go true = refl
-    go false = refl
-event_operations s (Told rs N) = go s.kept
-  where
-    go : (b : Bool) → filter is_operation (cond b (map operation_line (cond b (between s.installed N) []) ++ U.Done ∷ []) []) ≡ map operation_line (cond b (between s.installed N) [])
-    go true = batch_operations (between s.installed N)
-    go false = refl
-event_operations s (Sync N) = batch_operations (between s.installed N)
+event_operations s e = grind (arith, batch_operations)
 
 pub lines_operations : (s : Installer) (es : List Event) → filter is_operation (update_lines s es) ≡ map operation_line (given s es)
 lines_operations s [] = refl
-lines_operations s (e ∷ es) =
-    filter-append is_operation (event_lines s e) (update_lines (after_event s e) es)
-    ∙ ap (λ us. us ++ filter is_operation (update_lines (after_event s e) es)) (event_operations s e)
-    ∙ ap (λ us. map operation_line (gives s e) ++ us) (lines_operations (after_event s e) es)
-    ∙ sym (map-append operation_line (gives s e) (given (after_event s e) es))
+lines_operations s (e ∷ es) = rw (filter-append, event_operations, lines_operations (after_event s e) es, map-append)
 
 pub output_is_given : OutputIsGiven
 output_is_given ns = lines_operations start (events begin ns)
 
 -- ---- the lines of one more note
 
--- one event at most gives no batch, or one
-module _ (s : Installer) where
-  abbrev NoneOrBatch : List Event → Type 0
-  NoneOrBatch es = ((batches s es ≡ 0) × (update_lines s es ≡ [])) ⊎ ((batches s es ≡ 1) × (update_lines s es ≡ map operation_line (given s es) ++ U.Done ∷ []))
+-- no batch, or one
+abbrev NoneOrBatch : Installer → List Event → Type 0
+NoneOrBatch s es =
+    ((batches s es ≡ 0) × (update_lines s es ≡ []))
+    ⊎ ((batches s es ≡ 1) × (update_lines s es ≡ map operation_line (given s es) ++ U.Done ∷ []))
 
-  none_or_batch : (es : List Event) → AtMostOne (λ e. Unit {0}) es → NoneOrBatch es
-  none_or_batch es (inl none) = subst NoneOrBatch (sym none) (inl (refl, refl))
-  none_or_batch es (inr (e, is, any)) = subst NoneOrBatch (sym is) (go (Installer.kept (after_event s e)))
-    where
-      batch : List FibUpdate
-      batch = map operation_line (gives s e) ++ U.Done ∷ []
-
-      go : (b : Bool) → ((◌≡◌ {A = ℕ} (cond b 1 0) 0) × (cond b batch [] ++ [] ≡ [])) ⊎ ((◌≡◌ {A = ℕ} (cond b 1 0) 1) × (cond b batch [] ++ [] ≡ map operation_line (gives s e ++ []) ++ U.Done ∷ []))
-      go true = inr (refl, append-nil batch ∙ ap (λ os. map operation_line os ++ U.Done ∷ []) (sym (append-nil (gives s e))))
-      go false = inl (refl, refl)
+one_batch : (s : Installer) (e : Event) → NoneOrBatch s (e ∷ [])
+one_batch s e = grind (arith, append-nil)
 
 pub notes_give_batches : NotesGiveBatches
 notes_give_batches ns n =
     let before = events begin ns in
     let at = after_notes begin ns in
     let these = event_of at n.note n.table in
-    let all : events begin (ns ++ n ∷ []) ≡ before ++ these = events-append begin ns (n ∷ []) ∙ ap (λ fs. before ++ fs) (append-nil these) in
-    let more = ap (batches start) all ∙ batches-append start before these in
-    let lines = ap (update_lines start) all ∙ lines-append start before these in
+    let more = ap (batches start) (whole ns n) ∙ batches-append start before these in
+    let lines = ap (update_lines start) (whole ns n) ∙ lines-append start before these in
+    let batch : NoneOrBatch (after_events start before) these =
+    ⊎_elim (λ none. rw none (inl (refl, refl))) (λ t. rw t.1 (one_batch (after_events start before) t.0))
+    (one_event at n.note n.table) in
     ⊎_elim
     (λ none. inl ((let same : batches_given (ns ++ n ∷ []) ≡ batches_given ns = omega (arith, more, none.0) in same), lines ∙ ap (λ us. lines_given ns ++ us) none.1 ∙ append-nil (lines_given ns)))
     (λ one. inr (
       (let next : batches_given (ns ++ n ∷ []) ≡ suc (batches_given ns) = omega (arith, more, one.0) in next),
       lines ∙ ap (λ us. lines_given ns ++ us) one.1 ∙ ap (λ T. lines_given ns ++ (map operation_line (given T these) ++ U.Done ∷ [])) (sym (tables_after begin ns)),
     ))
-    (none_or_batch (after_events start before) these (one_event at n.note n.table))
+    batch
 
 -- ---- lines carried out
 
 -- `ok` changes nothing
 pub only_operations : (M : List Route) (us : List FibUpdate) → carried_out M us ≡ carried_out M (filter is_operation us)
 only_operations M [] = refl
-only_operations M (U.Install net hop ∷ us) = only_operations (with_route M (route_of net hop default_preference)) us
-only_operations M (U.Remove net ∷ us) = only_operations (without_block M (block net)) us
 only_operations M (U.Done ∷ us) = only_operations M us
+only_operations M (u ∷ us) = only_operations (carried_out M (u ∷ [])) us
 
--- a route with the default preference
-plain : Route → Route
-plain r = record { block = r.block; hop = r.hop; pref = default_preference }
+-- a route with the default preference, as that of a line
+abbrev plain : Route → Route
+plain r = preferring default_preference r
 
 plain_with : (M : List Route) (r : Route) → with_route (map plain M) (plain r) ≡ map plain (with_route M r)
-unfolding plain
-plain_with M r =
-    ap (λ l. l ++ plain r ∷ filter (λ (s : Route). is_before r.block s.block) (map plain M)) (filter_map_swap plain (λ (s : Route). is_before s.block r.block) M)
-    ∙ ap (λ l. map plain (filter (λ (s : Route). is_before s.block r.block) M) ++ plain r ∷ l) (filter_map_swap plain (λ (s : Route). is_before r.block s.block) M)
-    ∙ sym (map-append plain (filter (λ (s : Route). is_before s.block r.block) M) (r ∷ filter (λ (s : Route). is_before r.block s.block) M))
+plain_with M r = simp (filter_map_swap, map-append)
 
 plain_without : (M : List Route) (b : Block) → without_block (map plain M) b ≡ map plain (without_block M b)
-unfolding plain
 plain_without M b = filter_map_swap plain (λ (s : Route). not (same_block s.block b)) M
 
--- lines give no preferences
-plain_carried : (us : List FibUpdate) (M : List Route) → map plain (carried_out M us) ≡ carried_out (map plain M) us
-unfolding plain
-plain_carried [] M = refl
-plain_carried (U.Install net hop ∷ us) M = plain_carried us (with_route M (route_of net hop default_preference)) ∙ ap (λ T. carried_out T us) (sym (plain_with M (route_of net hop default_preference)))
-plain_carried (U.Remove net ∷ us) M = plain_carried us (without_block M (block net)) ∙ ap (λ T. carried_out T us) (sym (plain_without M (block net)))
-plain_carried (U.Done ∷ us) M = plain_carried us M
-
-plain_operations : (os : List Operation) (M : List Route) → carried_out (map plain M) (map operation_line os) ≡ map plain (after_all M os)
-unfolding plain
-plain_operations [] M = refl
-plain_operations (Install r ∷ os) M =
-    ap (λ (b : Block). carried_out (with_route (map plain M) (record { block = b; hop = r.hop; pref = default_preference })) (map operation_line os)) (of_network_at r.block)
-    ∙ ap (λ T. carried_out T (map operation_line os)) (plain_with M r)
-    ∙ plain_operations os (with_route M r)
-plain_operations (Remove b ∷ os) M =
-    ap (λ (c : Block). carried_out (without_block (map plain M) c) (map operation_line os)) (of_network_at b)
-    ∙ ap (λ T. carried_out T (map operation_line os)) (plain_without M b)
-    ∙ plain_operations os (without_block M b)
-
--- preferences turn no address
-plain_longer : (r : Route) (o : Option Route) → longer (plain r) (option_map plain o) ≡ plain (longer r o)
-unfolding plain
-plain_longer r None = refl
-plain_longer r (Some s) = go (nat_lt r.block.len s.block.len)
-  where
-    go : (b : Bool) → cond b (plain s) (plain r) ≡ plain (cond b s r)
-    go true = refl
-    go false = refl
-
-plain_longest : (rs : List Route) → longest (map plain rs) ≡ option_map plain (longest rs)
-plain_longest [] = refl
-plain_longest (r ∷ rs) = ap (λ o. Some (longer (plain r) o)) (plain_longest rs) ∙ ap Some (plain_longer r (longest rs))
-
-plain_number : (o : Option Route) → match_number (option_map plain o) ≡ match_number o
-unfolding plain
-plain_number None = refl
-plain_number (Some r) = refl
-
-plain_hop : (M : List Route) (x : Address) → hop_at (map plain M) x ≡ hop_at M x
-unfolding plain
-plain_hop M x =
-    ap (λ rs. match_number (longest rs)) (filter_map_swap plain (λ (r : Route). is_inside (host x) r.block) M)
-    ∙ ap match_number (plain_longest (covering M (host x)))
-    ∙ plain_number (match_of M (host x))
+same_carried : (os : List Operation) (M N : List Route) → map plain M ≡ map plain N
+    → map plain (carried_out M (map operation_line os)) ≡ map plain (after_all N os)
+same_carried [] M N e = e
+same_carried (Install r ∷ os) M N e = same_carried os _ _
+    (sym (plain_with M (route_of (network_at r.block) r.hop default_preference))
+    ∙ (λ i. with_route (e i) (record { block = of_network_at r.block i; hop = r.hop; pref = default_preference }))
+    ∙ plain_with N r)
+same_carried (Remove b ∷ os) M N e =
+    same_carried os _ _
+    (sym (plain_without M (block (network_at b))) ∙ (λ i. without_block (e i) (of_network_at b i)) ∙ plain_without N b)
 
 -- the lines of operations make the hops that the operations make
 pub carried_hops : (M : List Route) (os : List Operation) (x : Address) → hop_at (carried_out M (map operation_line os)) x ≡ hop_at (after_all M os) x
 carried_hops M os x =
-    sym (plain_hop (carried_out M (map operation_line os)) x)
-    ∙ ap (λ T. hop_at T x) (plain_carried (map operation_line os) M ∙ plain_operations os M)
-    ∙ plain_hop (after_all M os) x
+    sym (hops_same default_preference (carried_out M (map operation_line os)) x)
+    ∙ ap (λ T. hop_at T x) (same_carried os M M refl)
+    ∙ hops_same default_preference (after_all M os) x
 
 -- ---- a beginning
 
 pub first_of_map : {A B : Type 0} (f : A → B) (xs : List A) (ys zs : List B) → ys ++ zs ≡ map f xs → ys ≡ map f (take (length ys) xs)
-first_of_map f xs [] zs e = refl
-first_of_map f [] (y ∷ ys) zs e = absurd (cc)
-first_of_map f (x ∷ xs) (y ∷ ys) zs e =
-    let first : y ≡ f x = cc in
-    let rest : ys ++ zs ≡ map f xs = cc in
-    ap (λ z. z ∷ ys) first ∙ ap (λ l. f x ∷ l) (first_of_map f xs ys zs rest)
+first_of_map f xs ys zs e = sym (take-append_seam ys zs) ∙ ap (take (length ys)) e ∙ take-map f (length ys) xs
 
 -- of the first lines of these events
-pub first_carried : (M : List Route) (es : List Event) (us later : List FibUpdate) → update_lines start es ≡ us ++ later → (x : Address)
+first_carried : (M : List Route) (es : List Event) (us later : List FibUpdate) → update_lines start es ≡ us ++ later → (x : Address)
     → hop_at (carried_out M us) x ≡ hop_at (after_all M (take (length (filter is_operation us)) (given start es))) x
 first_carried M es us later e x =
-    let whole = sym (filter-append is_operation us later) ∙ ap (filter is_operation) (sym e) ∙ lines_operations start es in
+    let all = sym (filter-append is_operation us later) ∙ ap (filter is_operation) (sym e) ∙ lines_operations start es in
     ap (λ T. hop_at T x) (only_operations M us)
-    ∙ ap (λ vs. hop_at (carried_out M vs) x) (first_of_map operation_line (given start es) (filter is_operation us) (filter is_operation later) whole)
+    ∙ ap (λ vs. hop_at (carried_out M vs) x)
+    (first_of_map operation_line (given start es) (filter is_operation us) (filter is_operation later) all)
     ∙ carried_hops M (take (length (filter is_operation us)) (given start es)) x
+
+-- ---- lines that spell what they print
+
+abbrev IsSpelled : FibUpdate → Type 0
+IsSpelled u = IsUpdate (update_text u) u
+
+updates_read : (us : List FibUpdate) → All IsSpelled us → updates_in (printed_updates us) ≡ us
+updates_read [] s = refl
+updates_read (u ∷ us) s =
+    let text = update_text u in
+    let first = All-head IsSpelled u us s in
+    ap updates_in (append_assoc text (10 ∷ []) (printed_updates us))
+    ∙ ap (filter_map update_of)
+    (first_line text (printed_updates us) (recursion_from_All (λ c. c ≢ 10) text (updates.clean text u first)))
+    ∙ filter_map-append update_of (text ∷ []) (lines (printed_updates us))
+    ∙ ap (λ o. filter_map (λ (p : Option FibUpdate). p) (o ∷ []) ++ updates_in (printed_updates us))
+    (read_is of_updates text u first)
+    ∙ ap (λ vs. u ∷ vs) (updates_read us (All-tail IsSpelled u us s))
+
+abbrev GivesSpelled : Operation → Type 0
+GivesSpelled o = IsSpelled (operation_line o)
+
+between_spelled : (M N : List Route) → IsTable M → IsTable N → All GivesSpelled (between M N)
+between_spelled M N m n =
+    All-append GivesSpelled (map Install (reverse (missing M N))) (map (λ (r : Route). Remove r.block) (surplus M N))
+    (All-map GivesSpelled Install (reverse (missing M N))
+    (All-from_In (λ r. GivesSpelled (Install r)) (reverse (missing M N)) (λ r i.
+    let k = (In-from_filter _ N r (reverse_In (missing M N) r i)).0 in
+    prints (operation_line (Install r)) (is_cut r.block) (
+      net_reads r.block (In-from_All (λ (s : Route). IsBlock s.block) N n.blocks r k),
+      word_hop r.hop (In-from_All (λ (s : Route). IsHop s.hop) N n.hops r k),
+    ))))
+    (All-map GivesSpelled (λ (r : Route). Remove r.block) (surplus M N)
+    (All-weaker (λ (r : Route). IsBlock r.block) (λ (r : Route). GivesSpelled (Remove r.block))
+    (λ r b. prints (operation_line (Remove r.block)) (is_cut r.block) (net_reads r.block b)) (surplus M N)
+    (All-filter _ (λ (r : Route). IsBlock r.block) M m.blocks)))
+
+gives_spelled : (s : Installer) (e : Event) → IsTable s.installed → MayCome s e → All GivesSpelled (gives s e)
+gives_spelled s (Have r) m c = All-nil GivesSpelled
+gives_spelled s (Told rs N) m c =
+    cond_both s.kept (between s.installed N) [] (All GivesSpelled) (λ k. between_spelled s.installed N m (c.1 k).hops.table)
+    (λ k. All-nil GivesSpelled)
+gives_spelled s (Sync N) m c = between_spelled s.installed N m c.0.hops.table
+
+event_spelled : (s : Installer) (e : Event) → IsTable s.installed → MayCome s e → All IsSpelled (event_lines s e)
+event_spelled s e m c = cond_both (after_event s e).kept (map operation_line (gives s e) ++ U.Done ∷ []) [] (All IsSpelled)
+    (λ k. All-push IsSpelled (map operation_line (gives s e)) U.Done
+    (All-map IsSpelled operation_line (gives s e) (gives_spelled s e m c)) refl)
+    (λ k. All-nil IsSpelled)
+
+lines_spelled : (fs es : List Event) → MayAllCome start (es ++ fs) → All IsSpelled (update_lines (after_events start es) fs)
+lines_spelled [] es may = All-nil IsSpelled
+lines_spelled (e ∷ fs) es may =
+    let s = after_events start es in
+    let t = may_split start es (e ∷ fs) may in
+    let more = lines_spelled fs (es ++ e ∷ []) (subst (MayAllCome start) (sym (append_assoc es (e ∷ []) fs)) may) in
+    All-append IsSpelled (event_lines s e) (update_lines (after_event s e) fs)
+    (event_spelled s e (Holds.installed (holds es t.0)) t.1.0)
+    (subst (λ (r : Installer). All IsSpelled (update_lines r fs)) (after_events-append start es (e ∷ [])) more)
+
+pub output_reads_back : OutputReadsBack
+output_reads_back ns may = updates_read (update_lines start (events begin ns)) (lines_spelled (events begin ns) [] may)
+
+pub beginnings_are_carried_out : BeginningsAreCarriedOut
+beginnings_are_carried_out ns front back may e x =
+    let (more, first) = first_lines front back in
+    first_carried _ (events begin ns) (updates_in front) (filter_map update_of more)
+    (sym (output_reads_back ns may) ∙ ap updates_in e ∙ ap (filter_map update_of) first ∙ filter_map-append update_of (lines front) more) x

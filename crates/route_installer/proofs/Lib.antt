@@ -1,13 +1,6 @@
-pub mod GiveBatch
 pub mod TakesNote
-pub mod ChangesInRange
 pub mod Installed
-pub mod ToldNotes
 pub mod NotesInTurn
-pub mod Moments
 pub mod KeptTable
 pub mod GivenLines
-pub mod SpelledLines
-pub mod LogNotes
-pub mod CutLines
 pub mod CutOutput

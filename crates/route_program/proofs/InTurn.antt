@@ -12,4 +12,4 @@ module _ {S E : Type 0} (next : S → E → S) (after : S → List E → S) (non
   made-append gives made nothing one s [] fs = ap (λ t. made t fs) (sym (none s)) ∙ ap (λ l. l ++ made (after s []) fs) (sym (nothing s))
   made-append gives made nothing one s (e ∷ es) fs =
       one s e (es ++ fs) ∙ ap (λ l. gives s e ++ l) (made-append gives made nothing one (next s e) es fs) ∙ sym (append_assoc (gives s e) (made (next s e) es) (made (after (next s e) es) fs))
-      ∙ ap (λ l. l ++ made (after (next s e) es) fs) (sym (one s e es)) ∙ ap (λ t. made s (e ∷ es) ++ made t fs) (sym (more s e es))
+      ∙ rw (one s e es, more s e es)

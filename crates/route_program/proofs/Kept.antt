@@ -1,36 +1,26 @@
 -- Bytes that are kept between two reads.
 use Rattle.std.proofs.Common.{◌≡◌, ◌==◌, ℕ, ◌<◌, true, false, List, [], ◌∷◌, ◌++◌, length, take, drop, ◌+◌, ◌-◌, ◌≤◌, None, Some, refl, sym, ap, ◌∙◌, append_assoc, eqb-true, drop-drop, length-drop, length-take-le, Option, arith}
 use Rattle.std.proofs.Math.Seq.{take-append_seam}
+use Rattle.std.proofs.lemmas.Bool.Decides.{nat_tests}
 use Rattle.std.specs.Io.KnownBytes.{Consumes, IsAtEnd, prepend_known}
 
-at_end : (b : Option (List ℕ)) (after : List ℕ) → after ≡ [] → IsAtEnd b → IsAtEnd (prepend_known after b)
-at_end None after e end = tt
-at_end (Some ys) after e end = ap (λ l. l ++ ys) e ∙ end
+pub at_end : (b : Option (List ℕ)) (after : List ℕ) → after ≡ [] → IsAtEnd b → IsAtEnd (prepend_known after b)
+at_end b after e end = grind arith
 
--- nothing was kept; of the bytes that the device gave, those of `front` are handed out
-pub kept_back : (a b : Option (List ℕ)) (before front after given : List ℕ) (P Q : Type 0) → before ≡ [] → given ≡ front ++ after
-    → Consumes a b given → (P → Q → (after ≡ []) × IsAtEnd b)
-    → Consumes (prepend_known before a) (prepend_known after b) front × (P → Q → IsAtEnd (prepend_known after b))
-kept_back None b before front after given P Q none split read end = (tt, λ p q. at_end b after (end p q).0 (end p q).1)
-kept_back (Some xs) None before front after given P Q none split read end = absurd read
-kept_back (Some xs) (Some ys) before front after given P Q none split read end = (
-  ap (λ l. l ++ xs) none ∙ read ∙ ap (λ l. l ++ ys) split ∙ append_assoc front after ys,
-  λ p q. at_end (Some ys) after (end p q).0 (end p q).1,
-)
-
--- some of what was kept is handed out
-pub handed_on : (a : Option (List ℕ)) (before front after : List ℕ) (P Q : Type 0) → before ≡ front ++ after → (P → Q → ⊥)
-    → Consumes (prepend_known before a) (prepend_known after a) front × (P → Q → IsAtEnd (prepend_known after a))
-handed_on None before front after P Q split never = (tt, λ p q. absurd (never p q))
-handed_on (Some xs) before front after P Q split never = (ap (λ l. l ++ xs) split ∙ append_assoc front after xs, λ p q. absurd (never p q))
+-- of the bytes that were kept and those that the device gave, the first ones are handed out
+pub handed : (a b : Option (List ℕ)) (before given front after : List ℕ) → before ++ given ≡ front ++ after
+    → Consumes a b given → Consumes (prepend_known before a) (prepend_known after b) front
+handed None b before given front after split read = tt
+handed (Some xs) None before given front after split read = absurd read
+handed (Some xs) (Some ys) before given front after split read =
+    ap (λ l. before ++ l) read ∙ sym (append_assoc before given ys) ∙ ap (λ l. l ++ ys) split ∙ append_assoc front after ys
 
 pub none_left : (l : List ℕ) → (length l == 0) ≡ true → l ≡ []
 none_left [] e = refl
 none_left (x ∷ l) e = absurd (omega (arith, eqb-true _ _ e))
 
 pub some_left : (l : List ℕ) → (length l == 0) ≡ false → 0 < length l
-some_left [] e = cc
-some_left (x ∷ l) e = omega arith
+some_left l e = grind (arith, nat_tests)
 
 -- nothing is handed out only where there was nothing
 pub nothing_kept : (n : ℕ) (given : List ℕ) → (0 < length given → 0 < n) → n ≡ 0 → (given ≡ []) × (drop n given ≡ [])
@@ -40,7 +30,7 @@ nothing_kept n (x ∷ l) some none = let more : 0 < n = some (omega arith) in ab
 -- n bytes of what is left after the first m are handed out
 pub left_after : (m n : ℕ) (items left : List ℕ) → left ≡ drop m items → n ≤ length left → 0 < length left → drop (length items - (length left - n)) items ≡ drop n left
 left_after m n items left e short some =
-    let len : length left ≡ length items - m = ap length e ∙ length-drop m items in
+    let len = ap length e ∙ length-drop m items in
     ap (λ k. drop k items) {y = m + n} (omega (arith, len, short, some)) ∙ sym (drop-drop n m items) ∙ ap (drop n) (sym e)
 
 -- a copy of the first n bytes stands first

@@ -1,5 +1,5 @@
 -- Lines taken one after another.
-use Rattle.std.proofs.Common.{◌≡◌, ◌≢◌, ◌==◌, false, ℕ, ◌+◌, ◌-◌, ◌<◌, ◌≤◌, All, eq-eqb, eqb-true, ne_eqb, inl, inr, ⊎_elim, List, [], ◌∷◌, ◌++◌, length, length-append, take, drop, zero, suc, get_or, Option, Some, Result, Ok, Err, refl, sym, ap, ◌∙◌, subst, append_assoc, take-append-drop, option_to_list, drop-cons, OnOk, arith}
+use Rattle.std.proofs.Common.{◌≡◌, ◌≢◌, ◌==◌, false, ℕ, ◌+◌, ◌-◌, ◌<◌, ◌≤◌, All, eq-eqb, eqb-true, ne_eqb, inl, inr, ⊎_elim, List, [], ◌∷◌, ◌++◌, length, length-append, take, drop, zero, suc, get_or, Option, Some, Result, Ok, Err, refl, sym, ap, ◌∙◌, subst, append_assoc, take-append-drop, option_to_list, OnOk, arith}
 use Rattle.route_lines.specs.Kept.{Kept}
 use Rattle.std.proofs.lemmas.Result.{on_ok_weaker}
 use Rattle.std.specs.Io.KnownBytes.{Consumes}
@@ -8,7 +8,7 @@ use Rattle.route_lines.specs.Lines.{answers, fed_answer, fed, fed_all, kept_of, 
 use Rattle.route_lines.proofs.Cutting.{new_answers, quiet, new_line}
 use Rattle.memchr.specs.Find.{Nowhere, Passes, is_byte}
 use Rattle.std.proofs.lemmas.List.Elements.{All-from_get_or}
-use Rattle.std.proofs.lemmas.List.{take_rest}
+use Rattle.std.proofs.lemmas.List.{take_more, take_rest}
 use Rattle.route_lines.specs.declared.cutter.Line.{Line}
 use Rattle.route_program.specs.declared.counted.Counted.{Counted}
 use Rattle.route_program.specs.declared.error.RunError.{RunError}
@@ -29,13 +29,9 @@ none_found xs none = All-from_get_or (λ c. c ≢ 10) xs 0 (λ k below e. none k
 pub at_end : (all front left : List ℕ) (i : ℕ) → all ≡ front ++ left → i < length left → Passes (is_byte 10) left i
     → all ≡ (front ++ (take i left ++ 10 ∷ [])) ++ take (length left - (i + 1)) (drop (i + 1) left)
 at_end all front left i is h e =
-    let ends : left ≡ (take i left ++ 10 ∷ []) ++ drop (suc i) left =
-    sym (take-append-drop i left) ∙ ap (λ l. take i left ++ l) (drop-cons left i 0 h ∙ ap (λ b. b ∷ drop (suc i) left) (eqb-true (get_or left i 0) 10 e))
-    ∙ sym (append_assoc (take i left) (10 ∷ []) (drop (suc i) left)) in
-    let next : suc i ≡ i + 1 = omega arith in
-    is ∙ ap (λ l. front ++ l) ends ∙ sym (append_assoc front (take i left ++ 10 ∷ []) (drop (suc i) left))
-    ∙ ap (λ n. (front ++ (take i left ++ 10 ∷ [])) ++ drop n left) next
-    ∙ ap (λ l. (front ++ (take i left ++ 10 ∷ [])) ++ l) (sym (take_rest left (i + 1)))
+    let line = take_more left i 0 h ∙ ap (λ b. take i left ++ b ∷ []) (eqb-true (get_or left i 0) 10 e) in
+    is ∙ ap (λ l. front ++ l) (sym (take-append-drop (i + 1) left) ∙ ap (λ l. l ++ drop (i + 1) left) line)
+    ∙ simp (append_assoc, take_rest)
 
 module _ {S W : Type 0} (takes : S → Line → Counted W → Result Unit RunError → S → Counted W → Type 0) where
   TakesAll-one : (a b : S) (l : Line) (u v : Counted W) (r : Result Unit RunError) → takes a l u r b v → TakesAll takes a (l ∷ []) u r b v
@@ -84,7 +80,7 @@ pub record Went {S R W : Type 0} (takes : S → Line → Counted W → Result Un
   pub bytes : List ℕ
   pub read : Consumes (remaining from.device) (remaining to.device) bytes
   pub few : to.reads ≤ from.reads + length bytes + more
-  pub taken : TakesAll takes a (answers (kept_of []) bytes) old result b new
+  pub taken : TakesAll takes a (lines_in bytes) old result b new
   pub kept : OnOk result (cutter ≡ fed_all (kept_of []) bytes)
 
 module _ {S R W : Type 0} (takes : S → Line → Counted W → Result Unit RunError → S → Counted W → Type 0) (remaining : R → Option (List ℕ)) where
@@ -99,10 +95,7 @@ module _ {S R W : Type 0} (takes : S → Line → Counted W → Result Unit RunE
     bytes = x.bytes ++ piece;
     read = Consumes-trans _ _ _ x.bytes piece x.read read;
     few = let f = x.few in omega (arith, f, few, length-append x.bytes piece);
-    taken = takes_more takes a b c (kept_of []) k x.bytes piece u v w result x.taken x.kept taken;
+    taken = rw (← new_answers (x.bytes ++ piece))
+        (takes_more takes a b c (kept_of []) k x.bytes piece u v w result (rw new_answers x.taken) x.kept taken);
     kept = on_ok_weaker result (λ e. e ∙ ap (λ n. fed_all n piece) x.kept ∙ sym (fed_all-append (kept_of []) x.bytes piece)) fed;
   }
-
-  -- the lines that they end are those of the bytes
-  pub went_lines : (more : ℕ) (a b : S) (p q : Counted R) (u v : Counted W) (k : Kept) (result : Result Unit RunError) (x : Went takes remaining more a p u result b q v k) → TakesAll takes a (lines_in x.bytes) u result b v
-  went_lines more a b p q u v k result x = subst (λ ls. TakesAll takes a ls u result b v) (new_answers x.bytes) x.taken

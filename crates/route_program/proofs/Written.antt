@@ -1,11 +1,11 @@
 -- Writes one after another.
-use Rattle.std.proofs.Common.{◌≡◌, ◌==◌, ne_eqb, ℕ, zero, suc, ◌<◌, ◌≤◌, ◌+◌, ◌-◌, ◌^◌, Bool, true, false, not, ◌&&◌, ◌||◌, List, [], ◌∷◌, ◌++◌, length, Option, Result, Ok, Err, refl, sym, ap, ◌∙◌, subst, append_assoc, append-nil, arith}
-use Rattle.std.specs.Io.KnownBytes.{Appends}
+use Rattle.std.proofs.Common.{◌≡◌, ◌==◌, length-append, suc-add, zero-add, ℕ, zero, suc, ◌<◌, ◌+◌, Bool, true, false, not, ◌&&◌, ◌||◌, List, [], ◌∷◌, ◌++◌, length, Option, Result, Ok, Err, refl, sym, ap, ◌∙◌, subst, append_assoc, append-nil, arith}
 use Rattle.std.proofs.KnownBytes.{Appends-nil, Appends-trans}
 use Rattle.std.proofs.lemmas.Bool.{or_right, and_right}
+use Rattle.std.proofs.lemmas.Bool.Decides.{nat_tests}
 use Rattle.route_program.specs.declared.error.RunError.{RunError}
 use Rattle.route_program.specs.declared.counted.Counted.{Counted}
-use Rattle.route_program.specs.Counted.{MoreByIsMin, one_more, more_by, Flushed}
+use Rattle.route_program.specs.Counted.{one_more, more_by}
 use Rattle.route_program.specs.Devices.{Written, Delivers, has_bytes, Closed, Torn, Closes}
 
 -- a text of two has bytes where one of them has
@@ -21,38 +21,14 @@ pub has_some : (text : List ℕ) → 0 < length text → has_bytes text ≡ true
 has_some [] h = absurd (omega arith)
 has_some (b ∷ text) h = refl
 
--- whether bytes wait after so many flushes
-abbrev pub waits_after : ℕ → Bool → Bool
-waits_after times waits = (times == 0) && waits
-
-pub waits_none : (times : ℕ) → waits_after times false ≡ false
-waits_none times = and_right (times == 0) false refl
-
-pub waits_more : (times : ℕ) (w : Bool) → waits_after (suc times) w ≡ false
-waits_more times w = ap (λ b. b && w) (ne_eqb (suc times) 0 (omega arith))
-
 -- flushes after flushes
-pub more_by_is_min : MoreByIsMin
-more_by_is_min zero n h = omega (arith, h)
-more_by_is_min (suc times) n h =
-    let small : one_more n ≤ 2 ^ 64 - 1 = omega (arith, h) in
-    more_by_is_min times (one_more n) small ∙ omega (arith, h)
+more_plus : (m n x : ℕ) → more_by (m + n) x ≡ more_by n (more_by m x)
+more_plus zero n x = rw zero-add
+more_plus (suc m) n x = rw suc-add (more_plus m n (one_more x))
 
-more_append : {A : Type 0} (xs ys : List A) (n : ℕ) → more_by (length (xs ++ ys)) n ≡ more_by (length ys) (more_by (length xs) n)
-more_append [] ys n = refl
-more_append (x ∷ xs) ys n = more_append xs ys (one_more n)
-
-waits_append : {A : Type 0} (xs ys : List A) (w : Bool) → waits_after (length (xs ++ ys)) w ≡ waits_after (length ys) (waits_after (length xs) w)
-waits_append [] ys w = refl
-waits_append (x ∷ xs) ys w = waits_more (length (xs ++ ys)) w ∙ sym (waits_none (length ys)) ∙ ap (waits_after (length ys)) (sym (waits_more (length xs) w))
-
-module _ {W : Type 0} where
-  Flushed-append : {A : Type 0} (xs ys : List A) (a b c : Counted W) → Flushed (length xs) a b → Flushed (length ys) b c → Flushed (length (xs ++ ys)) a c
-  Flushed-append xs ys a b c p q = (
-    q.0 ∙ ap (more_by (length ys)) p.0 ∙ sym (more_append xs ys a.flushes),
-    q.1 ∙ ap (waits_after (length ys)) p.1 ∙ sym (waits_append xs ys a.waiting),
-    q.2 ∙ ap (waits_after (length ys)) p.2 ∙ sym (waits_append xs ys a.failing),
-  )
+-- whether bytes wait after so many flushes
+waits_plus : (m n : ℕ) (waits : Bool) → ((m + n == 0) && waits) ≡ ((n == 0) && ((m == 0) && waits))
+waits_plus m n waits = grind (arith, nat_tests)
 
 module _ {W : Type 0} (contents : W → Option (List ℕ)) where
   pub Written-nil : (w : Counted W) → Written contents w w []
@@ -93,15 +69,6 @@ module _ {W : Type 0} (contents : W → Option (List ℕ)) where
   Closes-written a b c (Ok x) s t p q = record { appended = Appends-trans _ _ _ s t p.appended q.appended; faults = q.faults ∙ p.faults; flushed = (q.flushed.0 ∙ ap one_more p.flushes, q.flushed.1, q.flushed.2) }
   Closes-written a b c (Err e) s t p q = (q.0, Torn-after a b c s t p q.1)
 
-  -- the end of a text after its beginning, and then all is flushed
-  pub Delivers-after : {T : Type 0} (a b c : Counted W) (r : Result T RunError) (s : List ℕ) → Written contents a b s → Delivers contents b c r [] → Delivers contents a c r s
-  Delivers-after a b c (Ok x) s p q = record {
-    appended = subst (Appends (contents a.device) (contents c.device)) (append-nil s) (Appends-trans _ _ _ s [] p.appended q.appended);
-    faults = q.faults ∙ p.faults;
-    flushed = (q.flushed.0 ∙ ap one_more p.flushes, q.flushed.1, q.flushed.2);
-  }
-  Delivers-after a b c (Err e) s p q = (q.0, subst (Torn contents a c) (append-nil s) (Torn-after a b c s [] p q.1))
-
   -- a flush closes a reply
   pub Closes-delivered : {T : Type 0} (a b : Counted W) (r : Result T RunError) → Delivers contents a b r [] → Closes contents 1 a b r []
   Closes-delivered a b (Ok x) q = record { appended = q.appended; faults = q.faults; flushed = q.flushed }
@@ -111,9 +78,30 @@ module _ {W : Type 0} (contents : W → Option (List ℕ)) where
   pub Closes-end : {T : Type 0} (a b c : Counted W) (r : Result T RunError) (s : List ℕ) → Written contents a b s → Closes contents 1 b c r [] → Closes contents 1 a c r s
   Closes-end a b c r s p q = subst (Closes contents 1 a c r) (append-nil s) (Closes-written a b c r s [] p q)
 
+  Delivers-closed : {T : Type 0} (a b : Counted W) (r : Result T RunError) (s : List ℕ) → Closes contents 1 a b r s
+      → Delivers contents a b r s
+  Delivers-closed a b (Ok x) s q = record { appended = q.appended; faults = q.faults; flushed = q.flushed }
+  Delivers-closed a b (Err e) s q = q
+
+  -- the end of a text after its beginning, and then all is flushed
+  pub Delivers-after : {T : Type 0} (a b c : Counted W) (r : Result T RunError) (s : List ℕ) → Written contents a b s → Delivers contents b c r [] → Delivers contents a c r s
+  Delivers-after a b c r s p q = Delivers-closed a c r s (Closes-end a b c r s p (Closes-delivered b c r q))
+
   pub Closed-nil : (w : Counted W) → Closed contents 0 w w []
   Closed-nil w = record { appended = Appends-nil (contents w.device); faults = refl; flushed = (refl, refl, refl) }
 
   -- replies after replies
+  pub Closed-plus : (m n : ℕ) (a b c : Counted W) (s t : List ℕ) → Closed contents m a b s → Closed contents n b c t
+      → Closed contents (m + n) a c (s ++ t)
+  Closed-plus m n a b c s t p q = record {
+    appended = Appends-trans _ _ _ s t p.appended q.appended;
+    faults = q.faults ∙ p.faults;
+    flushed = (
+      q.flushed.0 ∙ ap (more_by n) p.flushed.0 ∙ sym (more_plus m n a.flushes),
+      q.flushed.1 ∙ ap (λ w. (n == 0) && w) p.flushed.1 ∙ sym (waits_plus m n a.waiting),
+      q.flushed.2 ∙ ap (λ w. (n == 0) && w) p.flushed.2 ∙ sym (waits_plus m n a.failing),
+    );
+  }
+
   pub Closed-after : {A : Type 0} (xs ys : List A) (a b c : Counted W) (s t : List ℕ) → Closed contents (length xs) a b s → Closed contents (length ys) b c t → Closed contents (length (xs ++ ys)) a c (s ++ t)
-  Closed-after xs ys a b c s t p q = record { appended = Appends-trans _ _ _ s t p.appended q.appended; faults = q.faults ∙ p.faults; flushed = Flushed-append xs ys a b c p.flushed q.flushed }
+  Closed-after xs ys a b c s t p q = rw length-append (Closed-plus (length xs) (length ys) a b c s t p q)

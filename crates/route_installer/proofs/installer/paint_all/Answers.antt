@@ -1,6 +1,6 @@
 use Rattle.std.proofs.Common.{◌<◌, length, arith}
 use Rattle.route_laws.specs.Networks.{routes_of}
-use Rattle.route_installer.proofs.GiveBatch.{next_painted}
+use Rattle.route_installer.proofs.TakesNote.{next_painted}
 use Rattle.route_installer.proofs.installer.paint_all.Goals as goal
 
 pub loop-change-preserved : goal.loop-change-preserved

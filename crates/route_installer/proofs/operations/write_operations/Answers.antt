@@ -1,7 +1,7 @@
 use Rattle.std.proofs.Common.{ap, ◌∙◌}
 use Rattle.std.proofs.lemmas.Result.{err_from_is_err_and}
 use Rattle.route_installer.specs.InnerInstalling.{operation_bytes, update_line}
-use Rattle.route_installer.proofs.GiveBatch.{next_line}
+use Rattle.route_installer.proofs.TakesNote.{next_line}
 use Rattle.route_program.proofs.WriteLines.{Told-all, Told-more, Told-nil, Told-torn}
 use Rattle.route_installer.proofs.operations.write_operations.Goals as goal
 

@@ -9,11 +9,16 @@ returns-in_err-installer-clause-ends g c = let ok = c.in_err-installer.ensures.o
 pub returns-in_err-run-clause-ends : goal.returns-in_err-run-clause-ends
 returns-in_err-run-clause-ends g c =
     let p = err_from_is_err_and c.from_residual-in_err-run.result c.from_residual-in_err-run.ensures.1 in
-    rw (p.1, p.2) (install_stopped g.R.Read.remaining g.W.Write.contents c.args.reader.now c.run.new.reader c.args.writer.now c.run.new.writer c.in_ok-installer.installer c.run.new.sink c.in_ok-installer.ensures.state c.in_err-run.field-0.0 c.in_err-run.ensures.runs)
+    let runs = rw c.in_ok-installer.ensures.state at c.in_err-run.ensures.runs in
+    rw (p.1, p.2)
+    (install_stopped g.R.Read.remaining g.W.Write.contents c.args.reader.now c.run.new.reader c.args.writer.now c.run.new.writer
+    c.run.new.sink c.in_err-run.field-0.0 runs)
 
 pub returns-clause-ends : goal.returns-clause-ends
 returns-clause-ends g c =
-    install_ended g.R.Read.remaining g.W.Write.contents c.args.reader.now c.run.new.reader c.args.writer.now c.run.new.writer c.in_ok-installer.installer c.run.new.sink c.in_ok-installer.ensures.state c.in_ok-run.field-0 c.in_ok-run.ensures.runs
+    let runs = rw c.in_ok-installer.ensures.state at c.in_ok-run.ensures.runs in
+    install_ended g.R.Read.remaining g.W.Write.contents c.args.reader.now c.run.new.reader c.args.writer.now c.run.new.writer
+    c.run.new.sink c.in_ok-run.field-0 runs
 
 pub returns-clause-known : goal.returns-clause-known
 returns-clause-known g c = install_known g.R.Read.remaining g.W.Write.contents c.args.reader.now c.run.new.reader c.args.writer.now c.run.new.writer (Ok tt) (returns-clause-ends g c)

@@ -3,7 +3,7 @@ use Rattle.std.proofs.KnownBytes.{Consumes-kept}
 use Rattle.std.proofs.lemmas.Result.{err_from_is_err_and}
 use Rattle.route_lines.specs.Lines.{rest_in}
 use Rattle.route_lines.proofs.Cutting.{new_rest_in}
-use Rattle.route_program.proofs.SinkRun.{Went-nil, Went-more, refused_some, went_lines}
+use Rattle.route_program.proofs.SinkRun.{Went-nil, Went-more, refused_some}
 use Rattle.route_program.specs.Counted.{one_more}
 use Rattle.route_program.proofs.sink.run.Goals as goal
 
@@ -22,8 +22,9 @@ loop-read-preserved g c =
     let piece = take c.in-Ok.count c.read.new.buf in
     let count = length-take-le c.in-Ok.count c.read.new.buf (omega (arith, c.in-Ok.ensures.bound)) in
     record {
-      went = Went-more g.S.Sink.takes g.R.Read.remaining 0 c.args.sink.now c.loop-read.sink c.take_piece.new.sink c.args.reader.now c.loop-read.reader c.read.new.self c.args.writer.now c.loop-read.writer c.take_piece.new.writer
-          c.loop-read.cutter c.take_piece.new.cutter piece (Ok tt) inv.went (omega (arith, c.in-Ok.ensures.reads, count, c.if-count-eq0.false)) c.in-Ok.ensures.bytes.0 c.in_ok-take_piece.ensures.takes c.in_ok-take_piece.ensures.cutter;
+      went = Went-more g.S.Sink.takes g.R.Read.remaining 0 _ _ _ _ _ _ _ _ _ _ _ piece (Ok tt) inv.went
+          (omega (arith, c.in-Ok.ensures.reads, count, c.if-count-eq0.false))
+          c.in-Ok.ensures.bytes.0 c.in_ok-take_piece.ensures.takes c.in_ok-take_piece.ensures.cutter;
       can = c.in_ok-take_piece.ensures.others;
       reads = omega (arith, c.in-Ok.ensures.reads, inv.reads, c.requires.reader.0);
       faults = c.in-Ok.ensures.faults ∙ inv.faults;
@@ -38,7 +39,7 @@ returns-in_err-take_piece-clause-runs g c =
     c.loop-read.cutter c.take_piece.new.cutter (take c.in-Ok.count c.read.new.buf) (Err c.in_err-take_piece.field-0.0) inv.went (omega (arith, c.in-Ok.ensures.reads)) c.in-Ok.ensures.bytes.0 c.in_err-take_piece.ensures.takes tt in
     let some = refused_some g.S.Sink.takes c.loop-read.sink c.take_piece.new.sink c.loop-read.cutter c.in-Ok.count c.read.new.buf c.loop-read.writer c.take_piece.new.writer c.in_err-take_piece.field-0.0 c.in_err-take_piece.ensures.takes in
     let none = rw some at c.in-Ok.ensures.ends ∙ inv.ends in
-    rw (p.1, p.2) (record { bytes = went.bytes; read = (went.read, went.few); ends = inr (went_lines g.S.Sink.takes g.R.Read.remaining _ _ _ _ _ _ _ _ _ went, record { faults = c.in-Ok.ensures.faults ∙ inv.faults; ends = none; failing = λ _. c.in-Ok.ensures.failing }) })
+    rw (p.1, p.2) (record { bytes = went.bytes; read = (went.read, went.few); ends = inr (went.taken, record { faults = c.in-Ok.ensures.faults ∙ inv.faults; ends = none; failing = λ _. c.in-Ok.ensures.failing }) })
 
 pub returns-in_default-clause-runs : goal.returns-in_default-clause-runs
 returns-in_default-clause-runs g c =
@@ -46,7 +47,7 @@ returns-in_default-clause-runs g c =
     record {
       bytes = inv.went.bytes;
       read = (Consumes-kept _ _ _ inv.went.bytes inv.went.read c.in_default.ensures.bytes, let few = inv.went.few in omega (arith, few, c.in_default.ensures.reads));
-      ends = inl (went_lines g.S.Sink.takes g.R.Read.remaining _ _ _ _ _ _ _ _ _ inv.went, refl, (inl (omega (arith, c.in_default.ensures.faults, inv.faults, c.requires.reader.1), c.in_default.ensures.failing), c.in_default.ensures.ends ∙ inv.ends));
+      ends = inl (inv.went.taken, refl, (inl (omega (arith, c.in_default.ensures.faults, inv.faults, c.requires.reader.1), c.in_default.ensures.failing), c.in_default.ensures.ends ∙ inv.ends));
     }
 
 pub returns-then-count-eq0-clause-runs : goal.returns-then-count-eq0-clause-runs
@@ -59,7 +60,7 @@ returns-then-count-eq0-clause-runs g c =
       bytes = went.bytes;
       read = (went.read, went.few);
       ends = (
-        went_lines g.S.Sink.takes g.R.Read.remaining _ _ _ _ _ _ _ _ _ went,
+        went.taken,
         c.rest.ensures ∙ ap rest_in went.kept ∙ new_rest_in went.bytes,
         record {
           at_end = c.in-Ok.ensures.bytes.1 c.if-count-eq0.true (omega (arith, c.requires.room));
@@ -76,5 +77,5 @@ returns-clause-runs g c =
     record {
       bytes = inv.went.bytes;
       read = (inv.went.read, let few = inv.went.few in omega (arith, few));
-      ends = inl (went_lines g.S.Sink.takes g.R.Read.remaining _ _ _ _ _ _ _ _ _ inv.went, refl, (inr (omega (arith, inv.reads), inv.faults), inv.ends));
+      ends = inl (inv.went.taken, refl, (inr (omega (arith, inv.reads), inv.faults), inv.ends));
     }

@@ -1,8 +1,7 @@
-use Rattle.std.proofs.Common.{refl, ◌+◌, ◌-◌, ◌∷◌, ◌++◌, [], Ok, Err, length, take, drop, sym, ap, ◌∙◌, subst}
+use Rattle.std.proofs.Common.{refl, ◌+◌, ◌-◌, ◌∷◌, ◌++◌, [], Ok, Err, length, take, drop, sym, ap, ◌∙◌}
 use Rattle.std.proofs.lemmas.Result.{err_from_is_err_and}
 use Rattle.route_lines.proofs.Cutting.{new_after, quiet}
-use Rattle.route_lines.specs.Lines.{answers, fed_all}
-use Rattle.route_program.specs.Run.{TakesAll}
+use Rattle.route_lines.specs.Lines.{fed_all}
 use Rattle.route_program.proofs.SinkRun.{at_end, none_found, takes_more, takes_longer, fed_all-append}
 use Rattle.route_program.proofs.sink.take_piece.Goals as goal
 
@@ -15,9 +14,8 @@ returns-in_err-take_line-clause-takes g c =
     let line = take i left ++ 10 ∷ [] in
     let e = c.in_err-take_line.field-0.0 in
     let some = takes_more g.S.Sink.takes c.args.sink.now c.loop-end.sink c.take_line.new.sink c.args.cutter.now c.loop-end.cutter inv.front line c.args.writer.now c.loop-end.writer c.take_line.new.writer (Err e) inv.taken inv.cutter c.in_err-take_line.ensures.takes in
-    let all = takes_longer g.S.Sink.takes c.args.sink.now c.take_line.new.sink c.args.cutter.now (inv.front ++ line) (take (length left - (i + 1)) (drop (i + 1) left)) c.args.writer.now c.take_line.new.writer e some in
-    let is = at_end c.args.piece.now inv.front left i inv.is c.in-Some.ensures.0.high c.in-Some.ensures.1 in
-    rw (p.1, p.2) (subst (λ bs. TakesAll g.S.Sink.takes c.args.sink.now (answers c.args.cutter.now bs) c.args.writer.now (Err e) c.take_line.new.sink c.take_line.new.writer) (sym is) all)
+    rw (p.1, p.2, at_end c.args.piece.now inv.front left i inv.is c.in-Some.ensures.0.high c.in-Some.ensures.1)
+    (takes_longer g.S.Sink.takes c.args.sink.now c.take_line.new.sink c.args.cutter.now (inv.front ++ line) (take (length left - (i + 1)) (drop (i + 1) left)) c.args.writer.now c.take_line.new.writer e some)
 
 pub loop-end-preserved : goal.loop-end-preserved
 loop-end-preserved g c =
@@ -33,20 +31,15 @@ loop-end-preserved g c =
       can = c.in_ok-take_line.ensures.others;
     }
 
-pub hold-requires : goal.hold-requires
-hold-requires g c = none_found c.loop-end.left.now c.in_default.ensures
-
 pub returns-clause-takes : goal.returns-clause-takes
 returns-clause-takes g c =
     let inv = c.loop-end.invariant in
     let left = c.loop-end.left.now in
-    let no_line : TakesAll g.S.Sink.takes c.loop-end.sink (answers c.loop-end.cutter left) c.loop-end.writer (Ok tt) c.loop-end.sink c.loop-end.writer =
-    rw (quiet c.loop-end.cutter left (none_found left c.in_default.ensures)) (refl, refl, refl) in
-    subst (λ bs. TakesAll g.S.Sink.takes c.args.sink.now (answers c.args.cutter.now bs) c.args.writer.now (Ok tt) c.loop-end.sink c.loop-end.writer) (sym inv.is)
-    (takes_more g.S.Sink.takes c.args.sink.now c.loop-end.sink c.loop-end.sink c.args.cutter.now c.loop-end.cutter inv.front left c.args.writer.now c.loop-end.writer c.loop-end.writer (Ok tt) inv.taken inv.cutter no_line)
+    rw inv.is (takes_more g.S.Sink.takes c.args.sink.now c.loop-end.sink c.loop-end.sink c.args.cutter.now c.loop-end.cutter
+    inv.front left c.args.writer.now c.loop-end.writer c.loop-end.writer (Ok tt) inv.taken inv.cutter
+    (rw (quiet c.loop-end.cutter left (none_found left c.in_default.ensures)) (refl, refl, refl)))
 
 pub returns-clause-cutter : goal.returns-clause-cutter
 returns-clause-cutter g c =
-    let inv = c.loop-end.invariant in
-    let left = c.loop-end.left.now in
-    c.hold.ensures.kept ∙ ap (λ k. fed_all k left) inv.cutter ∙ sym (fed_all-append c.args.cutter.now inv.front left) ∙ ap (fed_all c.args.cutter.now) (sym inv.is)
+    rw (c.loop-end.invariant.is, fed_all-append)
+    (c.hold.ensures.kept ∙ ap (λ k. fed_all k c.loop-end.left.now) c.loop-end.invariant.cutter)
