@@ -1,8 +1,7 @@
 -- What an installer has done at the end of its input.
-use Rattle.std.proofs.Common.{◌≡◌, ◌==◌, ◌&&◌, suc-add, zero-add, zero, suc, ℕ, ◌+◌, inr, ⊎_elim, All, Bool, true, false, cond, List, [], ◌∷◌, ◌++◌, map, IfSome, Option, None, Some, Result, Ok, Err, refl, sym, ap, ◌∙◌, subst, MatchOption, OnOk, arith}
+use Rattle.std.proofs.Common.{◌≡◌, ℕ, ◌+◌, inr, ⊎_elim, All, Bool, true, false, cond, List, [], ◌∷◌, ◌++◌, map, IfSome, Option, None, Some, Result, Ok, Err, refl, sym, ap, ◌∙◌, subst, MatchOption, OnOk, arith}
 use Rattle.std.specs.Option.{option_map_or}
 use Rattle.std.proofs.KnownBytes.{Appends-trans, Consumes-whole}
-use Rattle.std.proofs.lemmas.Bool.Decides.{nat_tests}
 use Rattle.std.proofs.lemmas.Grind.{flat_map-append}
 use Rattle.std.proofs.lemmas.List.Elements.{All-append, All-map, All-nil, All-push}
 use Rattle.ipnet_blocks.specs.Blocks.{IsBlock}
@@ -25,10 +24,10 @@ use Rattle.route_lines.proofs.Spells.{note_found}
 use Rattle.route_program.specs.declared.counted.Counted.{Counted}
 use Rattle.route_program.specs.declared.error.RunError.{RunError}
 use Rattle.route_program.specs.declared.error.RunError.TheVariants as Why
-use Rattle.route_program.specs.Counted.{more_by, one_more, ReadWell}
+use Rattle.route_program.specs.Counted.{ReadWell}
 use Rattle.route_program.specs.Devices.{Closed, HasReturned}
 use Rattle.route_program.specs.Run.{Runs, TakesAll}
-use Rattle.route_program.proofs.Written.{Closed-nil}
+use Rattle.route_program.proofs.Written.{Closed-nil, Closed-plus}
 use Rattle.route_feed.specs.Streams.{Change, change_of, closes, is_done, pending_after}
 use Rattle.route_feed.proofs.ReadLines.{of_notes, piece_spells}
 use Rattle.route_feed.proofs.ReadNets.{hop_is_hop, net_is_block}
@@ -110,26 +109,7 @@ are_notes ps ns c = record { spelled = c.spelled; may = c.may (All-nil IsInRange
 
 -- ---- notes after notes
 
-more_plus : (m n x : ℕ) → more_by (m + n) x ≡ more_by n (more_by m x)
-more_plus zero n x = rw zero-add
-more_plus (suc m) n x = rw suc-add (more_plus m n (one_more x))
-
--- whether bytes wait after so many flushes
-waits_plus : (m n : ℕ) (waits : Bool) → ((m + n == 0) && waits) ≡ ((n == 0) && ((m == 0) && waits))
-waits_plus m n waits = grind (arith, nat_tests)
-
 module _ {W : Type 0} (contents : W → Option (List ℕ)) where
-  Closed-plus : (m n : ℕ) (a b c : Counted W) (s t : List ℕ) → Closed contents m a b s → Closed contents n b c t → Closed contents (m + n) a c (s ++ t)
-  Closed-plus m n a b c s t p q = record {
-    appended = Appends-trans _ _ _ s t p.appended q.appended;
-    faults = q.faults ∙ p.faults;
-    flushed = (
-      q.flushed.0 ∙ ap (more_by n) p.flushed.0 ∙ sym (more_plus m n a.flushes),
-      q.flushed.1 ∙ ap (λ w. (n == 0) && w) p.flushed.1 ∙ sym (waits_plus m n a.waiting),
-      q.flushed.2 ∙ ap (λ w. (n == 0) && w) p.flushed.2 ∙ sym (waits_plus m n a.failing),
-    );
-  }
-
   -- what comes of a piece, by the note that it spells
   abbrev Outcome : Option FibInput → Installing → Counted W → Result Unit RunError → Installing → Counted W → Type 0
   Outcome o a old r b new = MatchOption o (TakesNone contents old r new) (λ note. TakesNote contents a note old r b new)
@@ -159,7 +139,7 @@ module _ {W : Type 0} (contents : W → Option (List ℕ)) where
           lines-append a.tables es rest,
           flat_map-append update_line (update_lines a.tables es) (update_lines (after_events a.tables es) rest),
         )
-            (Closed-plus (batches a.tables es) (batches (after_events a.tables es) rest) old mid new _ _ t.closed later.closed);
+            (Closed-plus contents (batches a.tables es) (batches (after_events a.tables es) rest) old mid new _ _ t.closed later.closed);
       }
 
   abbrev TakesLines : Installing → List Line → Counted W → Result Unit RunError → Installing → Counted W → Type 0
