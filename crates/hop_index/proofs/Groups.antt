@@ -16,13 +16,13 @@ one_more_group {A} f xs old new place end some within as_long is done =
     ∙ ((λ i. done i ++ is i) ∙ sym (map-append f (take place xs) (take (end - place) (drop place xs))) ∙ ap (map f) (subst (λ (k : ℕ). take place xs ++ take (end - place) (drop place xs) ≡ take k xs) whole (sym (take-add place (end - place) xs))))
 
 -- one more place, which is listed unless it has a property
-pub listed_on : (P : ℕ → Type 0) (place count more : ℕ) (places : List ℕ) → count < length places → count ≤ place → more ≤ 1 → (more ≡ 0 → P place)
-    → ((k : ℕ) → k < place → IsUnlisted k 0 count places → (count < place) × P k) → (k : ℕ) → k < place + 1 → IsUnlisted k 0 (count + more) (set places count place) → (count + more < place + 1) × P k
-listed_on P place count more places within most few has old k l none = ⊎_elim
-    (λ less. let t = old k less (λ j from to at. none j from (omega arith) (get_or-set_other places count j place 0 (λ e. omega arith) ∙ at)) in let f = t.0 in (omega arith, t.1))
+pub listed_on : (P : ℕ → Type 0) (place count more : ℕ) (places : List ℕ) → count < length places → more ≤ 1 → (more ≡ 0 → P place) → ((k : ℕ) → k < place → IsUnlisted k 0 count places → P k)
+    → (k : ℕ) → k < place + 1 → IsUnlisted k 0 (count + more) (set places count place) → P k
+listed_on P place count more places within few has old k l none = ⊎_elim
+    (λ less. old k less (λ j from to at. none j from (omega arith) (get_or-set_other places count j place 0 (λ e. omega arith) ∙ at)))
     (λ le.
     let is : place ≡ k = omega arith in
-    ⊎_elim (λ zero. (omega arith, subst P is (has (omega arith)))) (λ one. absurd (none count (omega arith) (omega arith) (get_or-set_at places count count place 0 refl within ∙ is))) (cases_lt more 1))
+    ⊎_elim (λ zero. subst P is (has (omega arith))) (λ one. absurd (none count (omega arith) (omega arith) (get_or-set_at places count count place 0 refl within ∙ is))) (cases_lt more 1))
     (cases_lt k place)
 
 module _ {A H : Type 0} (hop : A → H) (addrs : List A) (places : List ℕ) where

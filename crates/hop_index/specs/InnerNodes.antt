@@ -31,6 +31,10 @@ HasHop entry = (1073741824 ≤ entry) × (entry < 2147483648)
 abbrev pub hop_in_entry : ℕ → Option ℕ
 hop_in_entry entry = if entry % 1073741824 == 1073741823 then None else Some (entry % 1073741824)
 
+-- an IPv4 address whose entry has its hop
+abbrev pub HasOwnHop : Address → ℕ → Type 0
+HasOwnHop x entry = (x.family ≡ Ipv4) × HasHop entry
+
 -- an entry below 2 ^ 30 is how many ranges end below x, or up to four less; one from 2 ^ 31 on is 2 ^ 31 and the place of a node of these ranges
 pub record Leads (nodes : List StoredNode) (rs : List HopRange) (x entry : ℕ) : Type 0 where
   pub few : entry < 1073741824 → IsBetween rs x entry (entry + 4)

@@ -2,7 +2,7 @@
 ghost use Rattle.std.specs.Prelude.{◌≡◌, ℕ, ◌<◌, ◌≤◌, Option, length, map, slice_index, slice_index_or};
 ghost use Rattle.ipnet_addr.specs.Addresses.{Address, Ipv4, address_of};
 ghost use Rattle.hop_index.specs.Indexes.{hop_number, hop_of};
-ghost use Rattle.hop_index.specs.InnerNodes.{AllLead, AreFound, ArePlaces, HasHop, IsUnlisted, cell_of_address, hop_in_entry, index_of};
+ghost use Rattle.hop_index.specs.InnerNodes.{AllLead, AreFound, ArePlaces, HasOwnHop, IsUnlisted, cell_of_address, hop_in_entry, index_of};
 
 use crate::index::Sides;
 use crate::nodes::{LEVELS, MARK, has_hop, hop_in_entry};
@@ -10,7 +10,7 @@ use ipnet::IpAddr;
 use ipnet_addr::bits::ipv4_of;
 
 /// The number of addresses that go through the steps together.
-const GROUP: usize = 32;
+const GROUP: usize = 64;
 
 /// A type of addresses that `hops_of` takes: `IpAddr`, or `u32` for IPv4.
 pub trait Addressed: Copy {
@@ -74,7 +74,7 @@ impl FromHop for u64 {
 }
 
 /// The first step: the cell of each address.
-fn locate<A: Addressed>(sides: &Sides, addrs: &[A], cells: &mut [usize])
+fn locate<A: Addressed>(sides: &Sides, addrs: &[A], cells: &mut [u32])
     requires { length cells.old ≡ length addrs.now }
     ensures { (k : ℕ) (a : A) (c : ℕ) → k < length addrs.now → slice_index_or cells.new k c ≡ cell_of_address sides.now.v4 sides.now.v6 (A.address (slice_index_or addrs.now k a)) }
 {
@@ -83,115 +83,132 @@ fn locate<A: Addressed>(sides: &Sides, addrs: &[A], cells: &mut [usize])
     }
 }
 
-/// The second step: the entry of each cell.
-fn enter<A: Addressed>(sides: &Sides, addrs: &[A], cells: &[usize], entries: &mut [u32])
+/// The second step: the entry of each cell, and the hop of an IPv4 address if the entry has it. The others get any hop.
+fn enter<A: Addressed, H: FromHop>(
+    sides: &Sides,
+    addrs: &[A],
+    cells: &[u32],
+    entries: &mut [u32],
+    hops: &mut [H],
+)
     requires all { length cells.now ≡ length addrs.now }
     requires cells { (k : ℕ) (a : A) (c : ℕ) → k < length addrs.now → slice_index_or cells.now k c ≡ cell_of_address sides.now.v4 sides.now.v6 (A.address (slice_index_or addrs.now k a)) }
     requires entries { length entries.old ≡ length addrs.now }
-    ensures { AllLead sides.now.v4 sides.now.v6 A.address addrs.now entries.new }
+    requires hops { length hops.old ≡ length addrs.now }
+    ensures entries { AllLead sides.now.v4 sides.now.v6 A.address addrs.now entries.new }
+    ensures hops { (k e : ℕ) (a : A) (h : H) → k < length addrs.now → (A.address (slice_index_or addrs.now k a)).family ≡ Ipv4 → slice_index_or hops.new k h ≡ H.of_hop (hop_in_entry (slice_index_or entries.new k e)) }
 {
     for place in 0..addrs.len() {
-        entries[place] = sides.entry(cells[place], addrs[place].addr());
-    }
-}
-
-/// Stores the places of entries that are nodes first, and returns their number. No branch depends on an entry, since a processor can't
-/// predict it. This is a loop of its own, since some processors read nothing more before they know the place of an earlier store.
-fn list_nodes(entries: &[u32], places: &mut [usize]) -> usize
-    requires { length places.old ≡ length entries.now }
-    ensures { ArePlaces (length entries.now) result places.new }
-{
-    let mut count = 0;
-    for place in 0..entries.len() {
-        places[count] = place;
-        count += usize::from(entries[place] >= MARK);
-    }
-    count
-}
-
-/// Keeps, in front, those of the first `count` places whose entries are still nodes. Returns their number. No branch depends on an entry.
-fn keep_nodes(entries: &[u32], places: &mut [usize], count: usize) -> usize
-    requires { ArePlaces (length entries.now) count places.old }
-    ensures { ArePlaces (length entries.now) result places.new }
-{
-    let mut kept = 0;
-    for at in 0..count {
-        let place = places[at];
-        places[kept] = place;
-        kept += usize::from(entries[place] >= MARK);
-    }
-    kept
-}
-
-/// The next entry of the addresses at these places.
-fn follow<A: Addressed>(sides: &Sides, addrs: &[A], entries: &mut [u32], places: &[usize])
-    requires entries { AllLead sides.now.v4 sides.now.v6 A.address addrs.now entries.old }
-    requires places { ArePlaces (length addrs.now) (length places.now) places.now }
-    ensures { AllLead sides.now.v4 sides.now.v6 A.address addrs.now entries.new }
-{
-    for at in 0..places.len() {
-        let place = places[at];
-        entries[place] = sides.inner_entry(entries[place], addrs[place].addr());
-    }
-}
-
-/// The third step, level by level: the entry that nodes lead each address to. An entry that is no node stays so.
-fn lead<A: Addressed>(sides: &Sides, addrs: &[A], places: &mut [usize], entries: &mut [u32])
-    requires places { length places.old ≡ length addrs.now }
-    requires entries { AllLead sides.now.v4 sides.now.v6 A.address addrs.now entries.old }
-    ensures { AllLead sides.now.v4 sides.now.v6 A.address addrs.now entries.new }
-{
-    let mut count = list_nodes(entries, places);
-    for _ in 0..LEVELS {
-        if count == 0 {
-            break;
+        let addr = addrs[place].addr();
+        let entry = sides.entry(cells[place], addr);
+        entries[place] = entry;
+        if let IpAddr::V4(_) = addr {
+            hops[place] = H::from_hop(hop_in_entry(entry));
         }
-        follow(sides, addrs, entries, &places[..count]);
-        count = keep_nodes(entries, places, count);
     }
 }
 
-/// 0 for an IPv4 address whose entry has a hop, else 1.
+/// 0 for an IPv4 address whose entry has its hop, else 1.
 #[inline(always)]
 fn other(entry: u32, addr: IpAddr) -> usize
     ensures most { result ≤ 1 }
-    ensures hop { result ≡ 0 → HasHop entry }
+    ensures hop { result ≡ 0 → HasOwnHop (address_of addr) entry }
 {
-    usize::from(!(addr.is_ipv4() && has_hop(entry)))
+    match addr {
+        IpAddr::V4(_) => usize::from(!has_hop(entry)),
+        IpAddr::V6(_) => 1,
+    }
 }
 
-/// Stores the places of addresses whose entries have no hop first, and returns their number. No branch depends on an entry. For IPv6
-/// these are all.
-fn list_others<A: Addressed>(addrs: &[A], entries: &[u32], places: &mut [usize]) -> usize
+/// Stores the places of the other addresses first, and returns their number. For IPv6 these are all. No branch depends on an entry, since a
+/// processor can't predict it. This is a loop of its own, since some processors read nothing more before they know the place of an
+/// earlier store.
+fn list_others<A: Addressed>(addrs: &[A], entries: &[u32], places: &mut [u32]) -> usize
+    requires few { length addrs.now ≤ 64 }
     requires entries { length entries.now ≡ length addrs.now }
     requires places { length places.old ≡ length addrs.now }
     ensures places { ArePlaces (length addrs.now) result places.new }
-    ensures others { (k : ℕ) → k < length addrs.now → IsUnlisted k 0 result places.new → (result < length addrs.now) × HasHop (slice_index entries.now k) }
+    ensures others { (k : ℕ) (a : A) → k < length addrs.now → IsUnlisted k 0 result places.new → HasOwnHop (A.address (slice_index_or addrs.now k a)) (slice_index entries.now k) }
 {
     let mut count = 0;
     for place in 0..addrs.len() {
-        places[count] = place;
+        places[count] = place as u32;
         count += other(entries[place], addrs[place].addr());
     }
     count
 }
 
-/// The fourth step: the hops of entries that have one. The others get any hop.
-fn tell<H: FromHop>(entries: &[u32], hops: &mut [H])
-    requires { length hops.old ≡ length entries.now }
-    ensures { (k e : ℕ) (h : H) → k < length entries.now → slice_index_or hops.new k h ≡ H.of_hop (hop_in_entry (slice_index_or entries.now k e)) }
+/// Stores those of the places whose entries are nodes first in `nodes`, and returns their number. No branch depends on an entry.
+fn list_nodes(entries: &[u32], places: &[u32], nodes: &mut [u32]) -> usize
+    requires places { ArePlaces (length entries.now) (length places.now) places.now }
+    requires room { length places.now ≤ length nodes.old }
+    ensures { ArePlaces (length entries.now) result nodes.new }
 {
-    for place in 0..entries.len() {
-        hops[place] = H::from_hop(hop_in_entry(entries[place]));
+    let mut count = 0;
+    for at in 0..places.len() {
+        let place = places[at];
+        nodes[count] = place;
+        count += usize::from(entries[place as usize] >= MARK);
+    }
+    count
+}
+
+/// Keeps, in front, those of the first `count` places whose entries are still nodes. Returns their number. No branch depends on an entry.
+fn keep_nodes(entries: &[u32], nodes: &mut [u32], count: usize) -> usize
+    requires { ArePlaces (length entries.now) count nodes.old }
+    ensures { ArePlaces (length entries.now) result nodes.new }
+{
+    let mut kept = 0;
+    for at in 0..count {
+        let place = nodes[at];
+        nodes[kept] = place;
+        kept += usize::from(entries[place as usize] >= MARK);
+    }
+    kept
+}
+
+/// The next entry of the addresses at these places.
+fn follow<A: Addressed>(sides: &Sides, addrs: &[A], entries: &mut [u32], places: &[u32])
+    requires entries { AllLead sides.now.v4 sides.now.v6 A.address addrs.now entries.old }
+    requires places { ArePlaces (length addrs.now) (length places.now) places.now }
+    ensures { AllLead sides.now.v4 sides.now.v6 A.address addrs.now entries.new }
+{
+    for at in 0..places.len() {
+        let place = places[at] as usize;
+        entries[place] = sides.inner_entry(entries[place], addrs[place].addr());
     }
 }
 
-/// The fifth step: the hops of the addresses at these places, from their entries.
+/// The third step, level by level: the entry that nodes lead each of the other addresses to. An entry that is no node stays so. `nodes` has
+/// room for the places.
+fn lead<A: Addressed>(
+    sides: &Sides,
+    addrs: &[A],
+    places: &[u32],
+    nodes: &mut [u32],
+    entries: &mut [u32],
+)
+    requires places { ArePlaces (length addrs.now) (length places.now) places.now }
+    requires room { length places.now ≤ length nodes.old }
+    requires entries { AllLead sides.now.v4 sides.now.v6 A.address addrs.now entries.old }
+    ensures { AllLead sides.now.v4 sides.now.v6 A.address addrs.now entries.new }
+{
+    let mut count = list_nodes(entries, places, nodes);
+    for _ in 0..LEVELS {
+        if count == 0 {
+            break;
+        }
+        follow(sides, addrs, entries, &nodes[..count]);
+        count = keep_nodes(entries, nodes, count);
+    }
+}
+
+/// The fourth step: the hops of the addresses at these places, from their entries.
 fn find<A: Addressed, H: FromHop>(
     sides: &Sides,
     addrs: &[A],
     entries: &[u32],
-    places: &[usize],
+    places: &[u32],
     hops: &mut [H],
 )
     requires entries { AllLead sides.now.v4 sides.now.v6 A.address addrs.now entries.now }
@@ -200,29 +217,29 @@ fn find<A: Addressed, H: FromHop>(
     ensures { AreFound (λ addr. H.of_hop (hop_of (index_of sides.now.v4 sides.now.v6) (A.address addr))) addrs.now places.now (length places.now) hops.new }
 {
     for at in 0..places.len() {
-        let place = places[at];
+        let place = places[at] as usize;
         hops[place] = H::from_hop(sides.hop(entries[place], addrs[place].addr()));
     }
 }
 
-/// Stores the hops of at most 32 addresses.
+/// Stores the hops of at most 64 addresses.
 fn store<A: Addressed, H: FromHop>(sides: &Sides, addrs: &[A], hops: &mut [H])
-    requires few { length addrs.now ≤ 32 }
+    requires few { length addrs.now ≤ 64 }
     requires hops { length hops.old ≡ length addrs.now }
     ensures { hops.new ≡ map (λ addr. H.of_hop (hop_of (index_of sides.now.v4 sides.now.v6) (A.address addr))) addrs.now }
 {
     let mut places = [0; GROUP];
+    let mut nodes = [0; GROUP];
     let mut entries = [0; GROUP];
     let places = &mut places[..addrs.len()];
+    let nodes = &mut nodes[..addrs.len()];
     let entries = &mut entries[..addrs.len()];
     locate(sides, addrs, places);
-    enter(sides, addrs, places, entries);
-    lead(sides, addrs, places, entries);
+    enter(sides, addrs, places, entries, hops);
     let count = list_others(addrs, entries, places);
-    if count < addrs.len() {
-        tell(entries, hops);
-    }
-    find(sides, addrs, entries, &places[..count], hops);
+    let others = &places[..count];
+    lead(sides, addrs, others, nodes, entries);
+    find(sides, addrs, entries, others, hops);
 }
 
 /// Stores the hops of all addresses, group by group.

@@ -21,14 +21,14 @@ fn after_chunk<N: Stored>(ranges: &Ranges<N>, mut place: usize, chunk: u64) -> u
     place
 }
 
-/// The number of cells of a chunk in which `count` ranges end: the least power of two from three quarters of it on. So a cell mostly has
+/// The number of cells of a chunk in which `count` ranges end: the least power of two from five quarters of it on. So a cell mostly has
 /// the addresses of a network.
 fn cells_of(count: usize) -> usize
-    requires { count ≤ 2 ^ 63 }
+    requires { count ≤ 2 ^ 62 }
     ensures some { 0 < result }
-    ensures few { result ≤ 2 * count + 1 }
+    ensures few { result ≤ 3 * count + 1 }
 {
-    (count - count / 4).max(1).next_power_of_two()
+    (count + count / 4).max(1).next_power_of_two()
 }
 
 /// The first cell of each chunk, and the number of all cells.
@@ -50,13 +50,12 @@ pub(crate) fn tops_of<N: Stored>(alloc: Global, ranges: &Ranges<N>) -> Result<Ve
 
 /// The cell of a number, by its first 64 bits.
 #[inline]
-pub(crate) fn cell_at(tops: &[u32], head: u64) -> usize
+pub(crate) fn cell_at(tops: &[u32], head: u64) -> u32
     requires { AreTops tops.now }
-    ensures cell { result ≡ cell_of tops.now head }
-    ensures few { result < 2 ^ 33 }
+    ensures { result ≡ cell_of tops.now head }
 {
     let chunk = (head >> 48) as usize;
     let first = u64::from(tops[chunk]);
     let cells = u64::from(tops[chunk + 1]) - first;
-    (first + ((head % (1 << 48) >> 16) * cells >> 32)) as usize
+    (first + ((head % (1 << 48) >> 16) * cells >> 32)) as u32
 }

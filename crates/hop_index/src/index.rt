@@ -46,7 +46,7 @@ pub(crate) struct Sides {
 impl Sides {
     /// The address's cell.
     #[inline(always)]
-    pub(crate) fn cell(&self, addr: IpAddr) -> usize
+    pub(crate) fn cell(&self, addr: IpAddr) -> u32
         ensures { result ≡ cell_of_address self.now.v4 self.now.v6 (address_of addr) }
     {
         match addr {
@@ -57,7 +57,7 @@ impl Sides {
 
     /// The entry of the address's cell.
     #[inline(always)]
-    pub(crate) fn entry(&self, cell: usize, addr: IpAddr) -> u32
+    pub(crate) fn entry(&self, cell: u32, addr: IpAddr) -> u32
         requires { cell ≡ cell_of_address self.now.v4 self.now.v6 (address_of addr) }
         ensures { LeadsAddress self.now.v4 self.now.v6 (address_of addr) result }
     {

@@ -58,7 +58,7 @@ impl<N: Stored> Lookups<N> {
 
     /// The number's cell.
     #[inline]
-    pub(crate) fn cell(&self, number: N) -> usize
+    pub(crate) fn cell(&self, number: N) -> u32
         ensures cell { result ≡ cell_of self.now.tops (head_of N.width (N.number number)) }
         ensures number { N.number number < 2 ^ N.width }
     {
@@ -67,12 +67,12 @@ impl<N: Stored> Lookups<N> {
 
     /// The entry of the number's cell.
     #[inline]
-    pub(crate) fn entry(&self, cell: usize, number: N) -> u32
+    pub(crate) fn entry(&self, cell: u32, number: N) -> u32
         requires cell { cell ≡ cell_of self.now.tops (head_of N.width (N.number number)) }
         requires number { N.number number < 2 ^ N.width }
         ensures { Leads self.now.nodes self.now.ranges (N.number number) result }
     {
-        self.cells[cell]
+        self.cells[cell as usize]
     }
 
     /// The entry of the number's cell of a node; if the entry is no node, the entry itself.

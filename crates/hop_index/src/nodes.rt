@@ -142,7 +142,7 @@ impl<N: Stored> Node<N> {
         ensures few { result < 2 ^ 33 }
     {
         match tops {
-            Some(tops) => cell_at(tops, number.head()),
+            Some(tops) => cell_at(tops, number.head()) as usize,
             None => self.cell(number) as usize,
         }
     }

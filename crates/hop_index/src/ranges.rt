@@ -214,7 +214,7 @@ impl<N: Stored> Ranges<N> {
         Ok(())
     }
 
-    /// Adds four ranges without a hop that end at the highest number.
+    /// Adds four ranges without a hop that end at the highest number, and frees spare memory of the list.
     pub(crate) fn pad(&mut self) -> Result<(), AllocError>
         requires ascending { AreAscending self.old }
         requires within { EndBelow (2 ^ N.width) self.old }
@@ -224,6 +224,7 @@ impl<N: Stored> Ranges<N> {
         for _ in 0..4_usize {
             self.push(highest(), None)?;
         }
+        self.ranges.shrink_to_fit();
         Ok(())
     }
 }

@@ -133,7 +133,7 @@ pub fn run<R: Read, W: Write, S: Sink<W>>(
     requires sink { S.can_take sink.old writer.old }
     requires reader { CanRead reader.old }
 
-    // The sink took the complete lines, up to the first one that it refused. The reads are bounded, and none follows the end.
+    // The sink took the complete lines, up to the first one that it refused. The reads are bounded. If the bytes are known, none follows the end.
     ensures runs { Runs S.takes R.remaining sink.old reader.old writer.old result sink.new reader.new writer.new }
     ensures reads { reader.new.reads ≤ reader.old.reads + 2 ^ 62 }
 {

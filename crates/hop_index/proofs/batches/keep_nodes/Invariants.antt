@@ -3,4 +3,4 @@ use Rattle.hop_index.specs.InnerNodes.{ArePlaces}
 use Rattle.hop_index.proofs.batches.keep_nodes.Given as goal
 
 abbrev pub invariant-loop-at : goal.invariant-loop-at
-invariant-loop-at l = record { most : l.kept ≤ l.at; places : ArePlaces (length l.entries) l.count l.places }
+invariant-loop-at l = record { most : l.kept ≤ l.at; nodes : ArePlaces (length l.entries) l.count l.nodes }
