@@ -1239,6 +1239,10 @@ ssize_t recvmsg(int file, struct msghdr *into, int flags)
     errno = ENOBUFS;
     return is("memory") ? -1 : is("empty") ? 0 : is("cut") ? size - 4 : size;
 }
+ssize_t recv(int file, void *into, size_t size, int flags)
+{
+    return syscall(SYS_recvfrom, file, into, is("small") ? 4096 : size, flags, 0, 0);
+}
 int getsockopt(int file, int level, int name, void *value, socklen_t *length)
 {
     int result = syscall(SYS_getsockopt, file, level, name, value, length);

@@ -13,7 +13,7 @@ import time
 from common import NETWORK, Numbers, fault, line_shown, locked, naming, text
 from netlink import ENCAPSULATED
 
-MOST, HIGHEST = 8, 65535
+MOST, HIGHEST, GATEWAYS = 8, 65535, 256  # the most hops of a network, preference, and gateways of a hop that `fib_kernel` takes
 TURN, QUIET = 0.25, 30  # seconds: one look at the stream; without a route, after which a dump is over
 LONGEST = 40  # times QUIET, or a longer rest: the seconds from its first route after which a dump without a rest is over
 COMMAND = re.compile(r"(add|del) ({}) (\d+|drop)(?: (\d+))?".format(NETWORK.pattern))
@@ -116,6 +116,8 @@ class Table:
         """This is the source's route of the network now."""
         if words == ENCAPSULATED:
             fault(f"{network} has a route with an encapsulation (`encap`), which no hop can name")
+        if (count := words.count("nexthop ")) > GATEWAYS:
+            fault(f"{network} has a route over {count} gateways, and a hop has at most {GATEWAYS}")
         self.change(network, source, (self.hops[words], worth, self.dump))
 
     def reach(self, network, source, address, worth=100):
