@@ -10,7 +10,7 @@ import subprocess
 import sys
 import time
 
-from common import NETWORK, Numbers, fault, line_shown, locked, naming, text
+from common import NETWORK, Numbers, fault, line_shown, locked, naming, open_to_write, text
 from netlink import ENCAPSULATED
 
 MOST, HIGHEST, GATEWAYS = 8, 65535, 256  # the most hops of a network, preference, and gateways of a hop that `fib_kernel` takes
@@ -86,7 +86,7 @@ class Table:
 
     def opened(self):
         """The file of commands. No other program may write it at the same time."""
-        file = open(self.commands, "a+")
+        file = open_to_write(self.commands, "a+")
         try:
             fcntl.flock(file, fcntl.LOCK_EX | fcntl.LOCK_NB)
         except BlockingIOError:

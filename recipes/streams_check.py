@@ -10,6 +10,7 @@ import select
 import shutil
 import signal
 import socket
+import stat
 import struct
 import subprocess
 import tempfile
@@ -328,9 +329,39 @@ def chain_of(folder, own, *families):
 WRONG_FILES = (("hops", "1\n"), ("hops", "1 a\n1 b\n"), ("commands", "1 via 192.0.2.1 dev lan\n"), ("commands", "add 10.0.0.0/8\n\n"))
 
 
+MINE = {"hops": "7 dev far\n", "commands": "add 10.9.0.0/16 7 100\n"}
+FOREIGN = (lambda path, other: path.symlink_to(other), lambda path, other: path.symlink_to(f"{other}.new"), lambda path, _: os.mkfifo(path),
+           lambda path, _: os.mknod(path, stat.S_IFCHR | 0o600, os.makedev(1, 3)))
+
+
+def foreign_files(folder):
+    """A link, a pipe or a device in the place of a file that a feed writes: it writes nothing there, and says so."""
+    for at, (name, make) in enumerate((name, make) for name in MINE for make in FOREIGN):
+        place, other = Path(folder, f"foreign{at}"), Path(folder, f"other{at}")
+        place.mkdir()
+        other.write_text(MINE[name])
+        make(place / name, other)
+        why = "a link, through which no recipe writes" if (place / name).is_symlink() else "not a regular file"
+        same(f"the {name} of another user", said_by_table(place), f"{place / name}: {why}")
+        same("the files of others", [path.read_text() for path in Path(folder).glob(f"other{at}*")], [MINE[name]])
+
+
+def said_by_table(place):
+    """Why a feed can't write a next hop and a route into these files."""
+    try:
+        table = streams.Table(f"{place}/hops", f"{place}/commands")
+        table.put("10.0.0.0/8", "peer", "via 192.0.2.1 dev lan")
+        table.flush()
+    except OSError as error:
+        return f"{error.filename}: {error.strerror}"
+    return None
+
+
 def wrong_files(chain, recipe, *before):
     """Files that the recipe refuses."""
     folder = chain.folder
+    with tempfile.TemporaryDirectory() as foreign:
+        foreign_files(foreign)
     for name, contents in WRONG_FILES:
         for one in ("hops", "commands"):
             Path(folder, f"{one}.wrong").write_text(contents if one == name else "")
@@ -779,7 +810,8 @@ def many_gateways(chain):
         with subprocess.Popen(command, stderr=subprocess.DEVNULL) as recipe:
             wait_for("a route over 250 gateways and another", lambda: commands.exists() and commands.read_text().count("add 10.") == 2)
             recipe.terminate()
-    tool("ip", "-n", chain.own, "route", "flush", "table", "79")
+    for network in ("10.0.0.0/8", "10.6.0.0/16"):  # a flush would not find them
+        tool("ip", "-n", chain.own, "route", "del", network, "table", "79")
 
 
 OLD = ("10.9.0.0/16", "2001:db8:9::/48")
@@ -806,7 +838,8 @@ def fed_by(folder, own, case, library=""):
                 time.sleep(0.5)
                 recipe.terminate()
                 is_ended = True
-    return None if is_ended else recipe.returncode, lines[0], [line.split()[1] for line in commands.read_text().splitlines() if line.startswith("del ")]
+    gone = [line.split()[1] for line in commands.read_text().splitlines() if line.startswith("del ")]
+    return None if is_ended else recipe.returncode, lines[0], gone
 
 
 def bad_ends(folder, own):
@@ -826,7 +859,8 @@ def bad_ends(folder, own):
         if (IS_EXACT or ":" not in network) and (library or not case):
             same(f"{count} gateways", fed_by(folder, own, case, library if case else ""), (1, said, []))
         tool("ip", "-n", own, "route", "del", network, "table", "79")
-    tool("ip", "-n", own, "route", "flush", "table", "79")
+    for network in FEW:
+        tool("ip", "-n", own, "route", "del", network, "table", "79")
     print(f"{len(BAD) + len(SAID) + 3} lists that end too early: none took a network away")
 
 
