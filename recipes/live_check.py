@@ -1288,6 +1288,18 @@ def check_bad_ends(folder):
             same(f"small parts, and {count} gateways: {said}", [status, said.startswith(SHORT)], [1, True])
 
 
+def check_unlisted(folder):
+    """while the kernel can't list a route, no `sync` comes; once somebody has removed the route, the table is in sync again"""
+    with small(folder, log=("set 10.1.0.0/16 1", "set 10.3.0.0/16 1")) as chain:
+        chain.wait(_1=1, _3=1)
+        put_gateways(chain.own, "10.2.0.0/16", 2100)
+        wait_for("the fault", lambda: "the route after 10.1.0.0/16 has too many gateways" in chain.said.read_text())
+        put_log(chain.log, "unset 10.3.0.0/16")
+        same("syncs", chain.syncs(), 1)
+        chain.ip("route del 10.2.0.0/16 table 77")
+        chain.wait(_1=1, _2=0, _3=0)
+
+
 WITHOUT_SIX = """
 #include <linux/rtnetlink.h>
 #include <sys/socket.h>
@@ -1330,8 +1342,8 @@ def check(is_figures):
     with tempfile.TemporaryDirectory() as folder:
         hops = f"{folder}/hops"
         check_page(folder)
-        for one in (check_lines, check_gateways, check_many_gateways, check_bad_ends, check_refused, check_silent, check_events,
-                    check_shorter, check_busy, check_polling, check_families, check_without_six, check_sandbox, check_options,
+        for one in (check_lines, check_gateways, check_many_gateways, check_bad_ends, check_unlisted, check_refused, check_silent,
+                    check_events, check_shorter, check_busy, check_polling, check_families, check_without_six, check_sandbox, check_options,
                     check_tries, check_permission, check_own, check_made_again, check_memory, check_measures):
             one(folder)
             print(f"seen: {one.__doc__}")
