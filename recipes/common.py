@@ -36,6 +36,7 @@ REPLIES = re.compile(r"(?:(?:(?:set|flat) {0} \d+|(?:unset|own) {0}|route {0} (?
 CLOSING = ("ok", "none", "bad", "refused")
 PIECE = 1 << 20
 PASSED_OVER = 77
+GATEWAYS = 256  # the most of a hop that `fib_kernel` takes
 
 LONGEST = 200  # characters of a wrong line that are shown
 
@@ -369,6 +370,8 @@ class Numbers:
 
     def __getitem__(self, name):
         if name not in self.of_name:
+            if (count := name.count("nexthop ")) > GATEWAYS:
+                fault(f"a hop has at most {GATEWAYS} gateways, and this one has {count}: {line_shown(name)}")
             self.last += 1
             self.of_name[name] = self.last
         return self.of_name[name]

@@ -10,10 +10,10 @@ import subprocess
 import sys
 import time
 
-from common import NETWORK, Numbers, fault, line_shown, locked, naming, open_to_write, text
+from common import GATEWAYS, NETWORK, Numbers, fault, line_shown, locked, naming, open_to_write, text
 from netlink import ENCAPSULATED
 
-MOST, HIGHEST, GATEWAYS = 8, 65535, 256  # the most hops of a network, preference, and gateways of a hop that `fib_kernel` takes
+MOST, HIGHEST = 8, 65535
 TURN, QUIET = 0.25, 30  # seconds: one look at the stream; without a route, after which a dump is over
 LONGEST = 40  # times QUIET, or a longer rest: the seconds from its first route after which a dump without a rest is over
 COMMAND = re.compile(r"(add|del) ({}) (\d+|drop)(?: (\d+))?".format(NETWORK.pattern))
