@@ -1,6 +1,7 @@
 /* The socket for events. It is not the socket for operations, since an event would come in place of an answer. */
 #include "fib_kernel.h"
 #include <arpa/inet.h>
+#include <errno.h>
 #include <libmnl/libmnl.h>
 #include <linux/filter.h>
 #include <linux/rtnetlink.h>
@@ -98,10 +99,13 @@ static void take_event(const struct nlmsghdr *head)
     }
 }
 
+/* The gateways of an event have at most 64 kB, so it has room, whatever table its route is of. */
 void take_events(void)
 {
-    static char buffer[1 << 16];
+    static char buffer[1 << 17];
     int size = mnl_socket_recvfrom(events, buffer, sizeof buffer);
+    if (size < 0 && errno == ENOSPC)
+        begin_again("events were lost: one is longer than %zu bytes", sizeof buffer);
     if (size < 0)
         begin_again("events were lost: %m");
     for (const struct nlmsghdr *head = (void *)buffer; mnl_nlmsg_ok(head, size); head = mnl_nlmsg_next(head, &size))

@@ -4,15 +4,18 @@
 #include <errno.h>
 #include <libmnl/libmnl.h>
 #include <linux/rtnetlink.h>
+#include <linux/sock_diag.h>
 #include <stdio.h>
 #include <string.h>
 
 /* The most bytes of a gateway in a message, which an IPv6 one for an IPv4 network takes; and those of the rest of the message. */
 enum { LEG_SIZE = sizeof(struct rtnexthop) + MNL_ATTR_HDRLEN + MNL_ALIGN(sizeof(uint16_t) + 16), REST_SIZE = 256 };
+enum { FULL_PART = 1 << 15 };                    /* the least memory of a part of a list, unless the kernel is short of memory */
 
 static struct mnl_socket *kernel;
 static uint32_t table, protocol, sequence;
 static char received[1 << 16];
+static char last_listed[INET6_ADDRSTRLEN + 4] = "the beginning";
 
 static void put_gateway(struct nlmsghdr *head, int family, const struct leg *leg)
 {
@@ -87,9 +90,12 @@ static void read_words(const struct nlmsghdr *head, char *words, size_t room)
 
 static const struct nlmsghdr *send_and_wait(const struct nlmsghdr *head)
 {
-    if (mnl_socket_sendto(kernel, head, head->nlmsg_len) < 0 || mnl_socket_recvfrom(kernel, received, sizeof received) < 0)
+    int size = mnl_socket_sendto(kernel, head, head->nlmsg_len);
+    if (size < 0 || (size = mnl_socket_recvfrom(kernel, received, sizeof received)) < 0)
         fault("netlink: %m");
     head = (void *)received;
+    if (!mnl_nlmsg_ok(head, size))
+        fault("netlink: an answer of %d bytes", size);
     if (head->nlmsg_seq != sequence)
         fault("netlink: an answer to another message");
     return head;
@@ -193,61 +199,96 @@ static uint32_t legs_of(const struct rtmsg *route, const struct nlattr *const *h
     return count;
 }
 
-static int print_route(const struct nlmsghdr *head, void *family)
+static void print_route(const struct nlmsghdr *head)
 {
     const struct rtmsg *route = mnl_nlmsg_get_payload(head);
     const struct nlattr *has[RTA_MAX + 1] = {0};
     struct leg legs[MOST_LEGS + 1];
     struct hop way = {.legs = legs};
     char net[INET6_ADDRSTRLEN];
+    if (route->rtm_family != AF_INET && route->rtm_family != AF_INET6)
+        return;
     mnl_attr_parse(head, sizeof *route, keep_attribute, has);
-    if (route->rtm_family != *(uint8_t *)family)
-        return MNL_CB_OK;
     if (route->rtm_protocol != protocol || !has[RTA_TABLE] || mnl_attr_get_u32(has[RTA_TABLE]) != table || route->rtm_flags & RTM_F_CLONED)
-        return MNL_CB_OK;
+        return;
     inet_ntop(route->rtm_family, has[RTA_DST] ? mnl_attr_get_payload(has[RTA_DST]) : &in6addr_any, net, sizeof net);
+    snprintf(last_listed, sizeof last_listed, "%s/%u", net, route->rtm_dst_len);
     if (route->rtm_type == RTN_UNICAST) {
         way.nhid = has[RTA_NH_ID] ? mnl_attr_get_u32(has[RTA_NH_ID]) : 0;
         way.count = legs_of(route, has, legs);
-        printf("have %s/%u %u\n", net, route->rtm_dst_len, (uint32_t)number_of(&way));
+        printf("have %s %u\n", last_listed, (uint32_t)number_of(&way));
     } else
-        printf("have %s/%u drop\n", net, route->rtm_dst_len);
-    return MNL_CB_OK;
+        printf("have %s drop\n", last_listed);
 }
 
-/* The end of a list begins with the number of an error, 0 for none. libmnl alone would not look at it. */
-static int end_list(const struct nlmsghdr *head, void *unused)
+/* The memory of the part that waits: the kernel makes each part before it is asked for. */
+static uint32_t memory_of_part(void)
 {
-    int error = *(const int *)mnl_nlmsg_get_payload(head);
-    (void)unused;
-    errno = -error;
-    return error < 0 ? MNL_CB_ERROR : MNL_CB_STOP;
-}
-
-/* A table that does not exist has no routes. Without IPv6 the kernel lists the routes of other families in place of those of IPv6. */
-static void list_family(uint8_t family)
-{
-    static mnl_cb_t ends[] = {[NLMSG_ERROR] = end_list, [NLMSG_DONE] = end_list};
-    struct nlmsghdr *head = mnl_nlmsg_put_header(received);
-    uint32_t port = mnl_socket_get_portid(kernel);
-    int size;
-    start(head, RTM_GETROUTE, NLM_F_DUMP, family);
-    if (mnl_socket_sendto(kernel, head, head->nlmsg_len) < 0)
+    uint32_t told[SK_MEMINFO_VARS];
+    socklen_t size = sizeof told;
+    if (getsockopt(mnl_socket_get_fd(kernel), SOL_SOCKET, SO_MEMINFO, told, &size))
         fault("netlink: %m");
-    do
-        size = mnl_socket_recvfrom(kernel, received, sizeof received);
-    while (size > 0 && (size = mnl_cb_run2(received, size, sequence, port, print_route, &family, ends, NLMSG_DONE + 1)) > 0);
-    if (size < 0 && errno == EINTR)
-        begin_again("the table changed while it was listed");
-    if (size < 0 && errno != ENOENT)
-        fault("list: %m");
+    return told[SK_MEMINFO_RMEM_ALLOC];
 }
 
-/* The parts of a list have at most the size of the buffer in which an answer came before, and 32 kB. A route that has no room in a part
-   ends the list without an error. So an answer comes first. */
+/* The next route has no room in an empty part. */
+static void lacks_room(uint32_t memory)
+{
+    if (memory < FULL_PART)
+        fault("list: the kernel is short of memory, and has no room for the route after %s", last_listed);
+    fault("list: the route after %s has too many gateways for the kernel to list it", last_listed);
+}
+
+/* The end has the number of an error, 0 for none. Older kernels, such as Linux 6.1, have 0 also where an IPv6 route had no room. */
+static void take_end(const struct nlmsghdr *head, uint32_t memory)
+{
+    int error = mnl_nlmsg_get_payload_len(head) < sizeof error ? EBADMSG : -*(const int *)mnl_nlmsg_get_payload(head);
+    if (error == EMSGSIZE)
+        lacks_room(memory);
+    if (error)
+        fault("list: the kernel ended it after %s: %s", last_listed, strerror(error));
+    if (head->nlmsg_type != NLMSG_DONE)
+        fault("list: an answer without a list");
+    if (memory < FULL_PART)
+        fault("list: the kernel is short of memory, and may have left out routes after %s", last_listed);
+}
+
+/* Whether more parts come. */
+static bool take_part(int size, uint32_t memory)
+{
+    const struct nlmsghdr *head = (void *)received;
+    if (!size)
+        lacks_room(memory);
+    for (; mnl_nlmsg_ok(head, size); head = mnl_nlmsg_next(head, &size)) {
+        if (head->nlmsg_seq != sequence)
+            fault("netlink: an answer to another message");
+        if (head->nlmsg_flags & NLM_F_DUMP_INTR)
+            begin_again("the table changed while it was listed");
+        if (head->nlmsg_type < NLMSG_MIN_TYPE)
+            return take_end(head, memory), false;
+        print_route(head);
+    }
+    if (size > 0)
+        fault("list: a message is cut off after %s", last_listed);
+    return true;
+}
+
+/* If a route has no room in a part, a list of all families ends with an error where a list of one family may not. A part has at most 32 kB,
+   and at most the size of the buffer in which an answer came before. So an answer comes first. A missing table has no routes. */
 void list_routes(void)
 {
+    uint32_t memory;
+    int size;
     find_device("lo");
-    list_family(AF_INET);
-    list_family(AF_INET6);
+    struct nlmsghdr *head = mnl_nlmsg_put_header(received);
+    start(head, RTM_GETROUTE, NLM_F_DUMP, AF_UNSPEC);
+    if (mnl_socket_sendto(kernel, head, head->nlmsg_len) < 0)
+        fault("list: %m");
+    do {
+        memory = memory_of_part();
+        if ((size = mnl_socket_recvfrom(kernel, received, sizeof received)) < 0 && errno == ENOSPC)
+            fault("list: the part after %s is longer than %zu bytes", last_listed, sizeof received);
+        if (size < 0)
+            fault("list: the part after %s did not come: %m", last_listed);
+    } while (take_part(size, memory));
 }

@@ -1,5 +1,6 @@
 """The common part of the recipes. A program is the one that the environment names, else the tree's, else the one in PATH."""
 import contextlib
+import errno
 import fcntl
 import ipaddress
 import itertools
@@ -9,6 +10,7 @@ import re
 import shutil
 import signal
 import socket
+import stat
 import subprocess
 import sys
 import textwrap
@@ -34,6 +36,7 @@ REPLIES = re.compile(r"(?:(?:(?:set|flat) {0} \d+|(?:unset|own) {0}|route {0} (?
 CLOSING = ("ok", "none", "bad", "refused")
 PIECE = 1 << 20
 PASSED_OVER = 77
+GATEWAYS = 256  # the most of a hop that `fib_kernel` takes
 
 LONGEST = 200  # characters of a wrong line that are shown
 
@@ -90,6 +93,28 @@ def naming(path):
         yield
     except OSError as error:
         raise OSError(error.errno, error.strerror, path) from error
+
+
+def need_regular(path, state):
+    if not stat.S_ISREG(state.st_mode):
+        why = "a link, through which no recipe writes" if stat.S_ISLNK(state.st_mode) else "not a regular file"
+        raise OSError(errno.EINVAL, why, path)
+
+
+def open_regular(path, flags):
+    with contextlib.suppress(FileNotFoundError):
+        need_regular(path, os.lstat(path))
+    number = os.open(path, flags | os.O_NOFOLLOW | os.O_NONBLOCK | os.O_CLOEXEC, 0o666)
+    need_regular(path, os.fstat(number))
+    return number
+
+
+def open_to_write(path, mode, **more):
+    """As `open`, but only a regular file: whoever owns the folder may put a link or a pipe in its place, through which root would write
+    elsewhere. Where the old content goes (`w`), a new file takes the old one's place."""
+    if "w" in mode:
+        Path(path).unlink(missing_ok=True)
+    return open(path, mode.replace("w", "x"), opener=open_regular, **more)
 
 
 def text(lines):
@@ -314,12 +339,10 @@ def alone(file):
 @contextlib.contextmanager
 def locked(path):
     """Until the end no other run has the file, which is made if it isn't there. Another file may have taken its place while this one
-    waited. No link is followed to make it: root may write where another user does."""
+    waited."""
     is_ours = False
     while not is_ours:
-        with contextlib.suppress(FileExistsError):
-            open(path, "x").close()
-        with open(path, "r+") as file:
+        with open_to_write(path, "a+") as file:
             fcntl.flock(file, fcntl.LOCK_EX)
             is_ours = os.path.exists(path) and os.path.samestat(os.fstat(file.fileno()), os.stat(path))
             if is_ours:
@@ -347,6 +370,8 @@ class Numbers:
 
     def __getitem__(self, name):
         if name not in self.of_name:
+            if (count := name.count("nexthop ")) > GATEWAYS:
+                fault(f"a hop has at most {GATEWAYS} gateways, and this one has {count}: {line_shown(name)}")
             self.last += 1
             self.of_name[name] = self.last
         return self.of_name[name]
@@ -366,9 +391,8 @@ class Numbers:
     def write(self):
         """Replaces the old file with the new one in one step, once the new one is on the disk. Daemons of another user can read it."""
         new = f"{self.path}.new"
-        Path(new).unlink(missing_ok=True)
         try:
-            with naming(new), open(new, "x") as file:
+            with naming(new), open_to_write(new, "w") as file:
                 os.fchmod(file.fileno(), os.stat(file.fileno()).st_mode | 0o444)
                 file.writelines(f"{number} {name}\n" for name, number in self.of_name.items())
                 file.flush()

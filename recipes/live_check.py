@@ -21,6 +21,7 @@ from pathlib import Path
 from typing import NamedTuple
 from unittest import mock
 
+import netlink
 from common import FIB_KERNEL, INSTALLER, PROGRAM, Page, any_addresses, bird, fault, namespace, needs, refused, same, text, tool
 
 
@@ -1140,6 +1141,165 @@ def check_gateways(folder):
         same("a long line", refused(*command, "list", str(other), "77").endswith("line 1: too long"), True)
 
 
+def attribute(kind, data):
+    return netlink.ATTRIBUTE.pack(netlink.ATTRIBUTE.size + len(data), kind) + data
+
+
+def put_gateways(own, network, count, table=77, protocol=77):
+    """Another program puts a route over so many gateways into a table."""
+    net, link, asked = ipaddress.ip_network(network), int(tool("ip", "-n", own, "-o", "link", "show", "lan").split(":")[0]), socket_in(own)
+    first = int(ipaddress.ip_address({4: "198.19.0.1", 6: "fe80::1"}[net.version]))
+    ways = [attribute(netlink.GATEWAY, (first + at).to_bytes(net.max_prefixlen // 8, "big")) for at in range(count)]
+    ways = b"".join(netlink.NEXT_HOP.pack(netlink.NEXT_HOP.size + len(way), netlink.ONLINK, 0, link) + way for way in ways)
+    body = netlink.ROUTE.pack({4: socket.AF_INET, 6: socket.AF_INET6}[net.version], net.prefixlen, 0, 0, 0, protocol, 0, netlink.UNICAST, 0)
+    body += attribute(netlink.TABLE, struct.pack("=I", table)) + attribute(netlink.DST, net.network_address.packed)
+    body += attribute(netlink.MULTIPATH, ways)
+    with asked:
+        asked.send(netlink.HEADER.pack(netlink.HEADER.size + len(body), netlink.NEWROUTE, 0x405, 1, 0) + body)  # REQUEST, ACK, CREATE
+        same(f"a route over {count} gateways", struct.unpack_from("=i", asked.recv(1 << 17), netlink.HEADER.size)[0], 0)
+
+
+def listed(command, hops, *more):
+    """The list of table 77, the status, and the line on standard error."""
+    done = subprocess.run([*command, "list", *more, hops, "77"], capture_output=True, text=True)
+    return done.stdout.splitlines(), done.returncode, done.stderr.removeprefix("fib_kernel: ").strip()
+
+
+FEW = ("10.0.0.0/16", "10.2.0.0/16", "2001:db8::/48", "2001:db8:2::/48")
+IS_EXACT = tuple(map(int, os.uname().release.split(".")[:2])) >= (6, 10)  # Linux ends no list of IPv6 early without an error
+
+
+def put_few(own):
+    for network in FEW:
+        tool("ip", "-n", own, *f"route add {network} dev lan table 77 proto 77".split())
+
+
+def check_many_gateways(folder):
+    """a route over more gateways than the kernel lists is a fault in the program's own routes, and is nothing in those of others"""
+    hops, have = f"{folder}/few", [f"have {network} 1" for network in FEW]
+    Path(hops).write_text("1 dev lan\n")
+    with namespace(*LAN) as own:
+        command = [*inside(own), FIB_KERNEL]
+        put_few(own)
+        for network, count, who in (("10.1.0.0/16", 2100, {"protocol": 78}), ("2001:db8:1::/48", 1200, {"protocol": 78}),
+                                    ("10.1.0.0/16", 2100, {"table": 78}), ("2001:db8:1::/48", 1200, {"table": 78})):
+            put_gateways(own, network, count, **who)
+        same("a list beside routes of others", listed(command, hops), ([*have, "ok"], 0, ""))
+        for at, network, count in ((3, "2001:db8:1::/48", 1200), (1, "10.1.0.0/16", 2100)):
+            said = f"list: the route after {FEW[at - 1]} has too many gateways for the kernel to list it"
+            unnamed = [*have[:at], f"have {network} 4294967295", *have[at:], "ok"]
+            for number, wanted in ((1000, (unnamed, 0, "")), (count, (have[:at], 1, said))):
+                tool("ip", "-n", own, "route", "del", network, "table", "77")
+                put_gateways(own, network, number)
+                if number == 1000 or IS_EXACT or at == 1:
+                    same(f"{number} gateways", listed(command, hops), wanted)
+            tool("ip", "-n", own, "route", "del", network, "table", "77")
+        check_foreign(own, hops)
+
+
+def check_foreign(own, hops):
+    """A route of another table, with so many gateways that its event has more than 64 kB, is none of the program's business."""
+    given = [*inside(own), FIB_KERNEL, "watch", "-p", "50", hops, "1000"]
+    process = subprocess.Popen(given, stdin=subprocess.PIPE, stdout=subprocess.PIPE, stderr=subprocess.PIPE, text=True)
+    same("the list", process.stdout.readline(), "ok\n")
+    put_gateways(own, "10.1.0.0/16", 4094, 1001)
+    carry_out(process)
+    put_gateways(own, "10.1.0.0/16", 4094, 1000)
+    same("a foreign change", [process.wait(LONG), process.stderr.read()], [3, "fib_kernel: the table 1000 was changed from outside\n"])
+
+
+# Each case turns the end of a list, which comes in a part of its own, into another one, once. `small` makes the kernel use small parts, as
+# when it is short of memory, and `old` gives such a part the end that an old kernel makes.
+BAD_ENDS = """
+#include <errno.h>
+#include <linux/rtnetlink.h>
+#include <stdlib.h>
+#include <string.h>
+#include <sys/socket.h>
+#include <sys/syscall.h>
+#include <unistd.h>
+static int is(const char *name)
+{
+    return !strcmp(getenv("CASE"), name);
+}
+ssize_t recvmsg(int file, struct msghdr *into, int flags)
+{
+    static int is_done;
+    struct nlmsghdr *head = into->msg_iov->iov_base;
+    if (is("small"))
+        into->msg_iov->iov_len = 4096;
+    ssize_t size = syscall(SYS_recvmsg, file, into, flags);
+    if (size <= 0 || head->nlmsg_type != NLMSG_DONE || is_done)
+        return size;
+    is_done = 1;
+    into->msg_flags |= is("truncated") ? MSG_TRUNC : 0;
+    head->nlmsg_flags |= is("changed") ? NLM_F_DUMP_INTR : 0;
+    *(int *)NLMSG_DATA(head) = is("error") ? -ENOMEM : is("size") ? -EMSGSIZE : 0;
+    head->nlmsg_type = is("answer") ? NLMSG_ERROR : NLMSG_DONE;
+    errno = ENOBUFS;
+    return is("memory") ? -1 : is("empty") ? 0 : is("cut") ? size - 4 : size;
+}
+ssize_t recv(int file, void *into, size_t size, int flags)
+{
+    return syscall(SYS_recvfrom, file, into, is("small") ? 4096 : size, flags, 0, 0);
+}
+int getsockopt(int file, int level, int name, void *value, socklen_t *length)
+{
+    int result = syscall(SYS_getsockopt, file, level, name, value, length);
+    if (level == SOL_SOCKET && name == SO_MEMINFO && is("old"))
+        *(unsigned *)value = 4352;
+    return result;
+}
+"""
+LAST, SHORT = "2001:db8:2::/48", "list: the kernel is short of memory, and "
+LISTS = (("memory", 1, f"list: the part after {LAST} did not come: No buffer space available"),
+         ("truncated", 1, f"list: the part after {LAST} is longer than 65536 bytes"),
+         ("error", 1, f"list: the kernel ended it after {LAST}: Cannot allocate memory"),
+         ("changed", 3, "the table changed while it was listed"),
+         ("empty", 1, f"list: the route after {LAST} has too many gateways for the kernel to list it"),
+         ("size", 1, f"list: the route after {LAST} has too many gateways for the kernel to list it"),
+         ("cut", 1, f"list: a message is cut off after {LAST}"), ("answer", 1, "list: an answer without a list"),
+         ("old", 1, f"{SHORT}may have left out routes after {LAST}"))
+
+
+def shim(folder, name, code):
+    """A library for LD_PRELOAD. None if there is no compiler."""
+    if shutil.which("cc") is None:
+        return print(f"passed over: {name}, since there is no cc")
+    tool("cc", "-x", "c", "-shared", "-fPIC", "-o", f"{folder}/{name}.so", "-", given=code)
+    return f"{folder}/{name}.so"
+
+
+def check_bad_ends(folder):
+    """each end of a list that may be too early is a fault, and so is a list of a kernel that is short of memory"""
+    hops, ends = f"{folder}/few", shim(folder, "ends", BAD_ENDS)
+    Path(hops).write_text("1 dev lan\n")
+    have = [f"have {network} 1" for network in FEW]
+    with namespace(*LAN) as own:
+        put_few(own)
+        command = [*inside(own), "env", f"LD_PRELOAD={ends}", FIB_KERNEL]
+        for case, status, said in LISTS if ends else ():
+            with mock.patch.dict(os.environ, CASE=case):
+                same(f"the case {case}", listed(command, hops), (have, status, said))
+        for network, count in (("2001:db8:1::/48", 200), ("10.1.0.0/16", 250)):
+            put_gateways(own, network, count)
+            with mock.patch.dict(os.environ, CASE="small"):
+                _, status, said = listed(command, hops) if ends else ((), 1, SHORT)
+            same(f"small parts, and {count} gateways: {said}", [status, said.startswith(SHORT)], [1, True])
+
+
+def check_unlisted(folder):
+    """while the kernel can't list a route, no `sync` comes; once somebody has removed the route, the table is in sync again"""
+    with small(folder, log=("set 10.1.0.0/16 1", "set 10.3.0.0/16 1")) as chain:
+        chain.wait(_1=1, _3=1)
+        put_gateways(chain.own, "10.2.0.0/16", 2100)
+        wait_for("the fault", lambda: "the route after 10.1.0.0/16 has too many gateways" in chain.said.read_text())
+        put_log(chain.log, "unset 10.3.0.0/16")
+        same("syncs", chain.syncs(), 1)
+        chain.ip("route del 10.2.0.0/16 table 77")
+        chain.wait(_1=1, _2=0, _3=0)
+
+
 WITHOUT_SIX = """
 #include <linux/rtnetlink.h>
 #include <sys/socket.h>
@@ -1158,14 +1318,13 @@ ssize_t sendto(int file, const void *data, size_t size, int flags, const struct 
 
 def check_without_six(folder):
     """a kernel without IPv6 takes all routes of IPv4; here it gets messages for IPv6 as those of a family that it doesn't have"""
-    hops, shim = f"{folder}/way", f"{folder}/shim.so"
-    if shutil.which("cc") is None:
-        return print("passed over: a kernel without IPv6, since there is no cc")
-    tool("cc", "-x", "c", "-shared", "-fPIC", "-o", shim, "-", given=WITHOUT_SIX)
+    hops, without = f"{folder}/way", shim(folder, "without_six", WITHOUT_SIX)
+    if not without:
+        return
     Path(hops).write_text("1 via 192.0.2.1 dev lan\n2 via fe80::2 dev lan\n")
     six = [f"install 2001:db8:{at}::/48 {hop}" for at, hop in enumerate((2, "drop", 9))] + ["remove 2001:db8::/48"]
     with namespace(*LAN) as own:
-        command = [*inside(own), "env", f"LD_PRELOAD={shim}", FIB_KERNEL]
+        command = [*inside(own), "env", f"LD_PRELOAD={without}", FIB_KERNEL]
         for mode, given, wanted in (("list", "", ""), ("load", text([*six, "install 10.1.0.0/16 1"]), ""),
                                     ("watch", text(six), "have 10.1.0.0/16 1\nok\n")):
             done = subprocess.run([*command, mode, hops, "77"], input=f"{given}ok\n", capture_output=True, text=True)
@@ -1183,9 +1342,9 @@ def check(is_figures):
     with tempfile.TemporaryDirectory() as folder:
         hops = f"{folder}/hops"
         check_page(folder)
-        for one in (check_lines, check_gateways, check_refused, check_silent, check_events, check_shorter, check_busy, check_polling,
-                    check_families, check_without_six, check_sandbox, check_options, check_tries, check_permission, check_own,
-                    check_made_again, check_memory, check_measures):
+        for one in (check_lines, check_gateways, check_many_gateways, check_bad_ends, check_unlisted, check_refused, check_silent,
+                    check_events, check_shorter, check_busy, check_polling, check_families, check_without_six, check_sandbox, check_options,
+                    check_tries, check_permission, check_own, check_made_again, check_memory, check_measures):
             one(folder)
             print(f"seen: {one.__doc__}")
         Path(hops).write_text(text(f"{hop} via fe80::{hop} dev lan" for hop in HOPS))

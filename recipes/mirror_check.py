@@ -9,7 +9,7 @@ import tempfile
 import zlib
 from pathlib import Path
 
-from __main__ import CLOSING, log, program, verify
+from __main__ import CLOSING, log, program, to_disk, verify
 from common import HERE, PROGRAM, Page, full_disk, refused, same, tool
 
 
@@ -112,6 +112,15 @@ def check_faults(root):
         print("refused:", said)
 
 
+def check_link(root):
+    """A link in the place of a new part: nothing is written behind it."""
+    other, part = Path(root, "other.user"), Path(root, "part")
+    other.write_text("mine\n")
+    Path(f"{part}.new").symlink_to(other)
+    to_disk(part, b"new\n")
+    same("the part, and the file behind the link", [part.is_symlink(), part.read_text(), other.read_text()], [False, "new\n", "mine\n"])
+
+
 def check():
     feed = tool(sys.executable, str(HERE.parent / "bench/feeds.py"), "churn", "v4", "20000")
     feed = feed.encode().splitlines(keepends=True)[:-1]
@@ -131,6 +140,7 @@ def check():
             check_crash(f"{root}/{victim}", feed, victim)
         check_damage(program("lead", short).stdout, parts[0])
         check_faults(root)
+        check_link(root)
         print("refused:", refused(sys.argv[0], "log", kept, str(len(whole) + 1)))
         parts[1].write_bytes(parts[1].read_bytes()[:-1])
         print("refused:", refused(sys.argv[0], "log", kept))

@@ -104,11 +104,13 @@ def table_of(body):
 
 
 def route(body):
-    """The route of a message, without words if its link is gone. None for a cached route, one of a network of
+    """The route of a message, without words if its link is gone. None for a cached route, one of another family or of a network of
     link-local addresses, and one that serves only a source network or a type of service."""
     family, length, source, service, table, _, _, kind, flags = ROUTE.unpack_from(body)
+    if family not in (socket.AF_INET, socket.AF_INET6) or source or service or flags & CLONED:
+        return None
     of_route, size = attributes(body, ROUTE.size), 4 if family == socket.AF_INET else 16
-    if family not in (socket.AF_INET, socket.AF_INET6) or source or service or flags & CLONED or of_route.get(DST, b"")[:2] == LINK_LOCAL:
+    if of_route.get(DST, b"")[:2] == LINK_LOCAL:
         return None
     network = f"{address(of_route.get(DST, bytes(size)))}/{length}"
     table = number(of_route[TABLE]) if TABLE in of_route else table

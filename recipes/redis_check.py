@@ -131,6 +131,10 @@ def check_wrong(machines, page):
     for words in (f"send {url} routes other", f"receive {url} routes other", f"send {url} routes short", f"send {url} routes nosuch",
                   "send nonsense routes log", f"receive {url} routes nosuch/copy", f"receive {url} routes copy"):
         page.refuses(f"timeout 60 {inner} recipes/redis {words}")
+    Path(page.folder, "empty").write_text("")
+    Path(page.folder, "link").symlink_to("empty")
+    page.refuses(f"timeout 20 {inner} recipes/redis receive {url} routes link")
+    same("the file behind a link", Path(page.folder, "empty").read_text(), "")
     for name, new in (("cut", "truncate -s 10 log.{0}"), ("replaced", "cp log.{0} log.new; mv log.new log.{0}"), ("begun", "echo ok > log.{0}")):
         Path(page.folder, f"log.{name}").write_text("set 10.0.0.0/8 9\nok\n" * 100)
         machines.start(name, f"recipes/redis send {url} {name} log.{name}")

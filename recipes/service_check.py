@@ -194,6 +194,37 @@ def check_silenced(run):
     same("without a standard error", [done.returncode, Path(run, "silenced").read_text().split()[2]], [0, "line"])
 
 
+def check_links():
+    """A link or a pipe in the place of a file that a daemon writes: nothing is written or deleted behind it."""
+    with tempfile.TemporaryDirectory() as run:
+        folder, other, kept = Path(run, "links"), Path(run, "mine"), Path(run, "others/kept")
+        kept.mkdir(parents=True)
+        other.write_text("ok\n")
+        for unit, name, target in (("lead", "lead.lock", other), ("lead", "lead.lock", None), ("lead", "log", other),
+                                   ("mirror", "parts", kept.parent), ("mirror", "parts/lock", other)):
+            (folder / name).parent.mkdir(parents=True)
+            (folder / "commands").write_text("add 10.0.0.0/8 1\n")
+            if unit == "mirror":
+                (folder / "log").write_text("")
+            (folder / name).symlink_to(target) if target else os.mkfifo(folder / name)
+            print("refused:", refused("timeout", "20", sys.argv[0], unit, str(folder), run).replace(run, "RUN"))
+            shutil.rmtree(folder)
+        same("what is behind the links", [other.read_text(), kept.is_dir()], ["ok\n", True])
+        check_replaced(folder, other, run)
+
+
+def check_replaced(folder, other, run):
+    """A link in the place of a file that is written anew: the new file takes its place."""
+    folder.mkdir()
+    (folder / "commands").write_text("add 10.0.0.0/8 1\n")
+    for path in (folder / "log.new", Path(run, "lead.new")):
+        path.symlink_to(other)
+    subprocess.run(["timeout", "2", sys.argv[0], "lead", folder, run], capture_output=True)
+    same("what is behind the links, and the log", [other.read_text(), (folder / "log").read_text()],
+         ["ok\n", tool(PROGRAM, "lead", given="add 10.0.0.0/8 1\n")])
+    same("the state", Path(run, "lead").read_text().startswith("error "), True)
+
+
 def check_units(folder):
     if not shutil.which("systemd-analyze"):
         return print("skipped the units: there is no systemd-analyze")
@@ -233,6 +264,7 @@ def check(seconds="60"):
         Path(folder, "hops").write_text("".join(f"{hop} via 192.0.2.{hop} dev lan\n" for hop in range(1, 5)))
         check_units(run)
         check_silenced(run)
+        check_links()
         print("refused:", refused(sys.argv[0], "status", run))
         print("refused:", refused(sys.argv[0], "lead", "/none", run))
         daemons = {unit: Daemon(unit, folder, run) for unit in UNITS}

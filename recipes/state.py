@@ -8,6 +8,8 @@ import sys
 import threading
 import time
 
+from common import open_to_write
+
 COMMITTED = re.compile(rb"^(?:set|unset) [^\n]*\nok$", re.MULTILINE)
 
 
@@ -40,7 +42,7 @@ class State:
 
     def write(self):
         try:
-            with open(f"{self.path}.new", "w") as file:
+            with open_to_write(f"{self.path}.new", "w") as file:
                 file.writelines(f"{name} {value}\n" for name, value in {**self.values, "time": f"{time.time():.0f}"}.items())
             os.replace(f"{self.path}.new", self.path)
         except OSError:

@@ -10,7 +10,7 @@ import subprocess
 import sys
 import time
 
-from common import NETWORK, Numbers, fault, line_shown, locked, naming, text
+from common import GATEWAYS, NETWORK, Numbers, fault, line_shown, locked, naming, open_to_write, text
 from netlink import ENCAPSULATED
 
 MOST, HIGHEST = 8, 65535
@@ -86,7 +86,7 @@ class Table:
 
     def opened(self):
         """The file of commands. No other program may write it at the same time."""
-        file = open(self.commands, "a+")
+        file = open_to_write(self.commands, "a+")
         try:
             fcntl.flock(file, fcntl.LOCK_EX | fcntl.LOCK_NB)
         except BlockingIOError:
@@ -116,6 +116,8 @@ class Table:
         """This is the source's route of the network now."""
         if words == ENCAPSULATED:
             fault(f"{network} has a route with an encapsulation (`encap`), which no hop can name")
+        if (count := words.count("nexthop ")) > GATEWAYS:
+            fault(f"{network} has a route over {count} gateways, and a hop has at most {GATEWAYS}")
         self.change(network, source, (self.hops[words], worth, self.dump))
 
     def reach(self, network, source, address, worth=100):

@@ -10,6 +10,7 @@ import select
 import shutil
 import signal
 import socket
+import stat
 import struct
 import subprocess
 import tempfile
@@ -19,7 +20,7 @@ from pathlib import Path
 import netlink
 import streams
 from common import HERE, Numbers, Page, any_addresses, bird, ends, fault, hops_of, namespace, needs, same, text, tool
-from live_check import inside, socket_in, wait_for
+from live_check import BAD_ENDS, FEW, IS_EXACT, inside, put_gateways, shim, socket_in, wait_for
 from streams import COMMAND
 
 DRAWN = random.Random(1)
@@ -328,9 +329,39 @@ def chain_of(folder, own, *families):
 WRONG_FILES = (("hops", "1\n"), ("hops", "1 a\n1 b\n"), ("commands", "1 via 192.0.2.1 dev lan\n"), ("commands", "add 10.0.0.0/8\n\n"))
 
 
+MINE = {"hops": "7 dev far\n", "commands": "add 10.9.0.0/16 7 100\n"}
+FOREIGN = (lambda path, other: path.symlink_to(other), lambda path, other: path.symlink_to(f"{other}.new"), lambda path, _: os.mkfifo(path),
+           lambda path, _: os.mknod(path, stat.S_IFCHR | 0o600, os.makedev(1, 3)))
+
+
+def foreign_files(folder):
+    """A link, a pipe or a device in the place of a file that a feed writes: it writes nothing there, and says so."""
+    for at, (name, make) in enumerate((name, make) for name in MINE for make in FOREIGN):
+        place, other = Path(folder, f"foreign{at}"), Path(folder, f"other{at}")
+        place.mkdir()
+        other.write_text(MINE[name])
+        make(place / name, other)
+        why = "a link, through which no recipe writes" if (place / name).is_symlink() else "not a regular file"
+        same(f"the {name} of another user", said_by_table(place), f"{place / name}: {why}")
+        same("the files of others", [path.read_text() for path in Path(folder).glob(f"other{at}*")], [MINE[name]])
+
+
+def said_by_table(place):
+    """Why a feed can't write a next hop and a route into these files."""
+    try:
+        table = streams.Table(f"{place}/hops", f"{place}/commands")
+        table.put("10.0.0.0/8", "peer", "via 192.0.2.1 dev lan")
+        table.flush()
+    except OSError as error:
+        return f"{error.filename}: {error.strerror}"
+    return None
+
+
 def wrong_files(chain, recipe, *before):
     """Files that the recipe refuses."""
     folder = chain.folder
+    with tempfile.TemporaryDirectory() as foreign:
+        foreign_files(foreign)
     for name, contents in WRONG_FILES:
         for one in ("hops", "commands"):
             Path(folder, f"{one}.wrong").write_text(contents if one == name else "")
@@ -763,6 +794,7 @@ def rtnetlink():
             chain.page.refuses(f"recipes/rtnetlink feed {at} hops.new commands.new") if at == "78" else None
         encapsulated(chain)
         many_gateways(chain)
+        bad_ends(folder, own)
         wrong_files(chain, "rtnetlink", "254")
 
 
@@ -778,7 +810,58 @@ def many_gateways(chain):
         with subprocess.Popen(command, stderr=subprocess.DEVNULL) as recipe:
             wait_for("a route over 250 gateways and another", lambda: commands.exists() and commands.read_text().count("add 10.") == 2)
             recipe.terminate()
-    tool("ip", "-n", chain.own, "route", "flush", "table", "79")
+    for network in ("10.0.0.0/8", "10.6.0.0/16"):  # a flush would not find them
+        tool("ip", "-n", chain.own, "route", "del", network, "table", "79")
+
+
+OLD = ("10.9.0.0/16", "2001:db8:9::/48")
+NO_ROOM = "table 79: the kernel has no room to list the route after {}: it has too many gateways, or the kernel is short of memory"
+BAD = {"truncated": "table 79: a message of the kernel is longer than 131072 bytes",
+       "error": f"table 79: the kernel ended the list after {FEW[-1]}: Cannot allocate memory",
+       "answer": f"table 79: the kernel ended the list after {FEW[-1]}: an answer without a list",
+       "cut": "table 79: a message of 20 bytes, of which 16 came", "empty": NO_ROOM.format(FEW[-1]), "size": NO_ROOM.format(FEW[-1])}
+SAID = {case: "the dump is over: 4 networks; 2 routes that were not in it are gone" for case in ("memory", "changed")}
+SAID["old"] = "the kernel is short of memory, and may have left out IPv6 routes of table 79; the recipe reads all again"
+
+
+def fed_by(folder, own, case, library=""):
+    """The status of a feed, its first line, and the networks that it removes. Without an end of its own it has no status."""
+    hops, commands, lines, is_ended = Path(folder, "hops.79"), Path(folder, "commands.79"), [], False
+    hops.write_text("1 dev lan\n")
+    commands.write_text(text(f"add {network} 1 {65535 if '.' in network else 64511}" for network in (*FEW, *OLD)))
+    command = ["timeout", "20", *inside(own), "env", f"CASE={case}", f"LD_PRELOAD={library}", HERE / "rtnetlink", "feed", "79", hops,
+               commands]
+    with subprocess.Popen(command, stderr=subprocess.PIPE, text=True) as recipe:
+        for line in recipe.stderr:
+            lines.append(line.removeprefix("rtnetlink: ").strip())
+            if lines[-1] == SAID.get(case):
+                time.sleep(0.5)
+                recipe.terminate()
+                is_ended = True
+    gone = [line.split()[1] for line in commands.read_text().splitlines() if line.startswith("del ")]
+    return None if is_ended else recipe.returncode, lines[0], gone
+
+
+def bad_ends(folder, own):
+    """A list of the kernel that ends too early takes no network away: the feed ends, or it reads the routes again."""
+    library = shim(folder, "ends", BAD_ENDS)
+    for network in FEW:
+        tool("ip", "-n", own, *f"route add {network} dev lan table 79".split())
+    for case, said in BAD.items() if library else ():
+        same(f"the case {case}", fed_by(folder, own, case, library), (1, said, []))
+    for case, said in SAID.items() if library else ():
+        same(f"the case {case}", fed_by(folder, own, case, library), (None, said, list(OLD[:1 if case == "old" else 2])))
+    for case, network, count, said in (("", "10.1.0.0/16", 257, "10.1.0.0/16 has a route over 257 gateways, and a hop has at most 256"),
+                                       ("", "10.1.0.0/16", 2100, NO_ROOM.format("10.0.0.0/16")),
+                                       ("", "2001:db8:1::/48", 1200, NO_ROOM.format("2001:db8::/48")),
+                                       ("small", "2001:db8:1::/48", 200, NO_ROOM.format("2001:db8::/48"))):
+        put_gateways(own, network, count, 79)
+        if (IS_EXACT or ":" not in network) and (library or not case):
+            same(f"{count} gateways", fed_by(folder, own, case, library if case else ""), (1, said, []))
+        tool("ip", "-n", own, "route", "del", network, "table", "79")
+    for network in FEW:
+        tool("ip", "-n", own, "route", "del", network, "table", "79")
+    print(f"{len(BAD) + len(SAID) + 3} lists that end too early: none took a network away")
 
 
 def encapsulated(chain):
