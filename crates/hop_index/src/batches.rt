@@ -138,22 +138,7 @@ fn list_others<A: Addressed>(addrs: &[A], entries: &[u32], places: &mut [u32]) -
     count
 }
 
-/// Stores those of the places whose entries are nodes first in `nodes`, and returns their number. No branch depends on an entry.
-fn list_nodes(entries: &[u32], places: &[u32], nodes: &mut [u32]) -> usize
-    requires places { ArePlaces (length entries.now) (length places.now) places.now }
-    requires room { length places.now ≤ length nodes.old }
-    ensures { ArePlaces (length entries.now) result nodes.new }
-{
-    let mut count = 0;
-    for at in 0..places.len() {
-        let place = places[at];
-        nodes[count] = place;
-        count += usize::from(entries[place as usize] >= MARK);
-    }
-    count
-}
-
-/// Keeps, in front, those of the first `count` places whose entries are still nodes. Returns their number. No branch depends on an entry.
+/// Keeps, in front, those of the first `count` places whose entries are nodes. Returns their number. No branch depends on an entry.
 fn keep_nodes(entries: &[u32], nodes: &mut [u32], count: usize) -> usize
     requires { ArePlaces (length entries.now) count nodes.old }
     ensures { ArePlaces (length entries.now) result nodes.new }
@@ -193,13 +178,15 @@ fn lead<A: Addressed>(
     requires entries { AllLead sides.now.v4 sides.now.v6 A.address addrs.now entries.old }
     ensures { AllLead sides.now.v4 sides.now.v6 A.address addrs.now entries.new }
 {
-    let mut count = list_nodes(entries, places, nodes);
+    let nodes = &mut nodes[..places.len()];
+    nodes.copy_from_slice(places);
+    let mut count = places.len();
     for _ in 0..LEVELS {
+        count = keep_nodes(entries, nodes, count);
         if count == 0 {
             break;
         }
         follow(sides, addrs, entries, &nodes[..count]);
-        count = keep_nodes(entries, nodes, count);
     }
 }
 
