@@ -1,4 +1,4 @@
-//! Tests of the prefixes, the maps and the sets of `prefix_trie`.
+//! Tests of `prefix_trie`: prefixes, maps and entries of networks, and scripts of maps.
 #![tactic(auto)]
 
 #[cfg(test)]

@@ -13,11 +13,6 @@ pub(crate) fn is_equal<T: Copy + PartialEq + Debug>(rt: &impl Abort, found: T, w
     assert_eq!(rt; found, wanted);
 }
 
-/// Checks that the fact is true.
-pub(crate) fn holds(rt: &impl Abort, fact: bool) {
-    assert!(rt; fact);
-}
-
 /// Checks the text of the network.
 pub(crate) fn is_text(rt: &impl Abort, key: Ipv4Net, text: &str) {
     let found = key.to_text();
@@ -50,25 +45,6 @@ pub(crate) fn map_of(
 /// Stores the value at the network of the text.
 fn store(rt: &impl Abort, map: &mut PrefixMap<Ipv4Net, u32>, network: &str, value: u32) {
     is_equal(rt, map.insert(net(rt, network), value).is_ok(), true);
-}
-
-/// A map of these keys of 32 bits, stored in this order.
-pub(crate) fn plain_map_of(
-    rt: &impl Abort,
-    alloc: Global,
-    keys: &[((u32, u8), u32)],
-) -> PrefixMap<(u32, u8), u32> {
-    let mut map = PrefixMap::new(alloc).expect(rt, "a map");
-    for (key, value) in keys.iter() {
-        store_plain(rt, &mut map, *key, *value);
-    }
-    map
-}
-
-/// Stores the value at a key of at most 32 bits.
-fn store_plain(rt: &impl Abort, map: &mut PrefixMap<(u32, u8), u32>, key: (u32, u8), value: u32) {
-    assert!(rt; key.1 <= 32);
-    is_equal(rt, map.insert(key, value).is_ok(), true);
 }
 
 /// Checks that a network was found, and checks its text.

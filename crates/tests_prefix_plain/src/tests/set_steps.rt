@@ -2,13 +2,12 @@
 ghost use Rattle.std.specs.Iterator.{IsFinite};
 ghost use Rattle.std.specs.Prelude.{IsTrue, nat_le};
 
-use crate::tests::maps::step_is;
 use crate::tests::rows::set_with;
 use crate::tests::set_steps::Call::*;
 use crate::tests::set_steps::Step::{Addresses, At, Clear, Counts, RetainAll, Walk};
-use crate::tests::steps::Spells;
 use prefix_trie::PrefixSet;
 use std::alloc::Global;
+use std::fmt::Debug;
 use std::process::Abort;
 
 /// A member: a key of 32 bits, and the length of the prefix.
@@ -69,6 +68,11 @@ pub(crate) fn digits<I: Iterator<Item = (u32, u8)>>(members: I) -> u32
     digits
 }
 
+/// Checks that `found` is `wanted`. If not, the message contains the name of the script and the number of steps before this one.
+fn step_is<T: Copy + PartialEq + Debug>(rt: &impl Abort, at: (&str, usize), found: T, wanted: T) {
+    assert_eq!(rt; found, wanted, "{}, after {} steps", at.0, at.1);
+}
+
 /// Checks a call that changes the set at a member, or one of the calls below.
 fn change(
     rt: &impl Abort,
@@ -119,7 +123,10 @@ fn walked(set: &PrefixSet<Member>, member: &Member, call: &Call) -> u32
 /// Checks a call of the whole set, or a call with a member.
 fn take(rt: &impl Abort, at: (&str, usize), set: &mut PrefixSet<Member>, step: &Step) {
     match step {
-        At(member, call) => change(rt, at, set, member.prefix().expect(rt, at.0), call),
+        At(member, call) => {
+            assert!(rt; member.1 <= 32, "{}", at.0);
+            change(rt, at, set, *member, call);
+        }
         Clear => set.clear(),
         RetainAll => set.retain(|_| true),
         asked => ask_of_all(rt, at, set, asked),
