@@ -101,16 +101,15 @@ fn copy_gives(rt: &impl Abort, members: &Iter<'_, (u32, u8)>, wanted: u32) {
 }
 
 /// Takes one member from a walk, and checks the rest by a copy of the walk.
-fn rest_is(rt: &impl Abort, set: &PrefixSet<(u32, u8)>, wanted: u32) {
-    let mut members = set.iter();
+fn rest_is(rt: &impl Abort, members: &mut Iter<'_, (u32, u8)>, wanted: u32) {
     holds(rt, members.next().is_some());
-    copy_gives(rt, &members, wanted);
+    copy_gives(rt, members, wanted);
 }
 
 #[test]
 fn walked_twice(rt: HostRuntime) {
     let set = three(&rt, rt.alloc());
-    rest_is(&rt, &set, 119);
+    rest_is(&rt, &mut set.iter(), 119);
 }
 
 #[test]
@@ -185,7 +184,8 @@ fn sets_copied(rt: HostRuntime) {
 fn is_copy(rt: &impl Abort, set: &PrefixSet<(u32, u8)>, copy: &PrefixSet<(u32, u8)>) {
     holds(rt, *copy == *set);
     is_equal(rt, copy.node_count(), set.node_count());
-    holds(rt, set.iter().next().is_some());
+    let has_members = set.iter().next().is_some();
+    holds(rt, has_members);
 }
 
 /// Checks the text of the refusal.
@@ -229,10 +229,15 @@ fn is_copied_or_refused(rt: &impl Abort, alloc: Global, set: &PrefixSet<(u32, u8
 #[test]
 fn refused(rt: HostRuntime) {
     let mut set: PrefixSet<(u32, u8)> = PrefixSet::new(rt.alloc()).expect(&rt, "a set");
-    stores_at_last(&rt, &mut set);
-    is_equal(&rt, set.node_count(), 7);
-    is_copied_or_refused(&rt, rt.alloc(), &set);
-    is_equal(&rt, set.node_count(), 7);
+    is_whole_after(&rt, rt.alloc(), &mut set);
+}
+
+/// Inserts the member and copies the set, and checks the nodes after each.
+fn is_whole_after(rt: &impl Abort, alloc: Global, set: &mut PrefixSet<(u32, u8)>) {
+    stores_at_last(rt, set);
+    is_equal(rt, set.node_count(), 7);
+    is_copied_or_refused(rt, alloc, set);
+    is_equal(rt, set.node_count(), 7);
 }
 
 /// A value that counts how many values of its type were dropped.
@@ -256,7 +261,8 @@ fn store_counted<'a>(
 )
     requires { IsTrue (nat_le key.1 32) }
 {
-    holds(rt, map.insert(key, Counted { drops }).is_ok());
+    let is_stored = map.insert(key, Counted { drops }).is_ok();
+    holds(rt, is_stored);
 }
 
 /// A map of three such values, at 0/0, 0/1 and 0x80000000/1.

@@ -98,6 +98,11 @@ fn written(rt: &impl Abort, map: &mut PrefixMap<Ipv4Net, u32>) {
     assert_eq!(rt; map.get(&inner), Some(&5));
     *map.get_lpm_value_mut(&host).expect(&rt, "a match") = 6;
     assert_eq!(rt; map.get(&inner), Some(&6));
+    written_by_an_entry(rt, map, inner);
+}
+
+/// A value that is written through the reference of an entry.
+fn written_by_an_entry(rt: &impl Abort, map: &mut PrefixMap<Ipv4Net, u32>, inner: Ipv4Net) {
     *map.entry(inner).or_insert(0).expect(&rt, "memory") = 7;
     assert_eq!(rt; map.get(&inner), Some(&7));
 }

@@ -124,12 +124,11 @@ fn spelled_is<P: Prefix + Copy + PartialEq + Debug, S: Spells<P>>(
     spelled: &S,
     stored: &u32,
 ) {
-    let wanted = match spelled.prefix() {
-        Some(key) => Some((key, stored)),
-        None => None,
-    };
+    let wanted = spelled.prefix();
     step_is(rt, at, wanted.is_some(), true);
-    step_is(rt, at, found, wanted);
+    if let Some(key) = wanted {
+        step_is(rt, at, found, Some((key, stored)));
+    }
 }
 
 /// Checks the length and the value of a match, or that there is none.
